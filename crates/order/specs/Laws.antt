@@ -1,0 +1,96 @@
+-- Laws of the use code, each computed over all codes once.
+use Prim.Native.Nat.{ℕ, zero, suc, _+_, _-_, _*_, _/_, _%_, _<_, _≤_}
+use mathlib.Core.Path.{_≡_, refl, sym, ap, _∙_, subst}
+use mathlib.Core.Bool.{Bool, true, false, not, _&&_, _||_}
+use native.Mathlib.Omega.{arith}
+use native.Mathlib.Nat.{le-of-suc-le-suc, not-suc-le-zero}
+use native.Mathlib.Decide.{ℕ-discrete}
+use lib.Dec.{T, eqb, ltb}
+use borrow.Author.Tests.{ltb-true}
+use mathlib.Core.List.{List, [], _∷_}
+use lib.ListN.{getD}
+use Rattle.words.specs.Words.{pick}
+use Rattle.order.specs.Order.{usedOf, earliestOf, isOrder, later, each}
+
+-- a test that each number below n passes
+unfoldable pub below : ℕ → (ℕ → Bool) → Bool
+below zero f = true
+below (suc n) f = f n && below n f
+
+first-true : (a b : Bool) → (a && b) ≡ true → a ≡ true
+first-true true b e = refl
+first-true false b e = e
+
+second-true : (a b : Bool) → (a && b) ≡ true → b ≡ true
+second-true true b e = e
+second-true false b e = absurd (not-true e)
+  where
+    not-true : false ≡ true → ⊥
+    not-true e = let z : _≡_ {A = ℕ} 0 1 = ap (λ b. elim b [ false ↦ 0 | true ↦ 1 ]) e in omega arith
+
+-- .. holds of each of them
+pub below-at : (n : ℕ) (f : ℕ → Bool) → below n f ≡ true → (k : ℕ) → k < n → f k ≡ true
+unfolding below
+below-at zero f e k h = absurd (not-suc-le-zero h)
+below-at (suc n) f e k h = elim (ℕ-discrete k n) [
+  | yes q ↦ subst (λ (m : ℕ). f m ≡ true) (sym q) (first-true (f n) (below n f) e)
+  | no q ↦ below-at n f (second-true (f n) (below n f) e) k (omega arith)
+]
+
+-- the table of a rule's n values from i on
+unfoldable pub table : (ℕ → ℕ) → ℕ → ℕ → List ℕ
+table rule i zero = []
+table rule i (suc n) = rule i ∷ table rule (suc i) n
+
+from : (rule : ℕ → ℕ) (n i k : ℕ) → k < n → getD (table rule i n) k 0 ≡ rule (i + k)
+unfolding table
+from rule zero i k h = absurd (not-suc-le-zero h)
+from rule (suc n) i zero h = ap rule (omega arith)
+from rule (suc n) i (suc k) h = from rule n (suc i) k (le-of-suc-le-suc h) ∙ ap rule (omega arith)
+
+-- .. has at each place what the rule says. A const table is one by computation
+pub tabled : (rule : ℕ → ℕ) (n k : ℕ) → k < n → getD (table rule 0 n) k 0 ≡ rule k
+tabled rule n k h = from rule n 0 k h ∙ ap rule (omega arith)
+
+-- a property of a code and a line, at 4 x code + line
+module _ (f : ℕ → ℕ → Bool) (holds : below 256 (λ k. f (k / 4) (k % 4)) ≡ true) where
+  pub of-code : (code n : ℕ) → code < 64 → n < 4 → f code n ≡ true
+  of-code code n hc hn =
+      let q : (code * 4 + n) / 4 ≡ code = omega arith in
+      let r : (code * 4 + n) % 4 ≡ n = omega arith in
+      subst (λ (m : ℕ). f m n ≡ true) q (subst (λ (m : ℕ). f ((code * 4 + n) / 4) m ≡ true) r (below-at 256 (λ k. f (k / 4) (k % 4)) holds (code * 4 + n) (omega arith)))
+
+-- a used line's code is a code
+pub used-small : (code n : ℕ) → code < 64 → n < 4 → usedOf code n < 64
+unfolding usedOf below
+used-small code n hc hn = ltb-true _ _ (of-code (λ c m. ltb (usedOf c m) 64) refl code n hc hn)
+
+implied : (a b : Bool) → (not a || b) ≡ true → a ≡ true → b ≡ true
+implied true b e h = e
+implied false true e h = refl
+implied false false e h = h
+
+-- use keeps an order an order
+pub used-order : (code n : ℕ) → code < 64 → n < 4 → isOrder code ≡ true → isOrder (usedOf code n) ≡ true
+unfolding usedOf isOrder below
+used-order code n hc hn = implied (isOrder code) (isOrder (usedOf code n)) (of-code (λ c m. not (isOrder c) || isOrder (usedOf c m)) refl code n hc hn)
+
+-- a line just used is later than each other line
+pub used-latest : (code n : ℕ) → code < 64 → n < 4 → each (λ m. eqb m n || later (usedOf code n) m n) ≡ true
+unfolding usedOf below
+used-latest code n hc hn = of-code (λ c l. each (λ m. eqb m l || later (usedOf c l) m l)) refl code n hc hn
+
+-- the fresh code is an order
+pub fresh-order : isOrder 63 ≡ true
+unfolding isOrder
+fresh-order = refl
+
+-- a victim is a line
+pub earliest-small : (code : ℕ) → code < 64 → earliestOf code < 4
+unfolding earliestOf below
+earliest-small code h = ltb-true _ _ (below-at 64 (λ c. ltb (earliestOf c) 4) refl code h)
+
+-- a test is a mark's being 1
+pub marked : (b : Bool) → eqb (pick b 1 0) 1 ≡ b
+marked true = refl
+marked false = refl
