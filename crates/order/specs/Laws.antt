@@ -9,7 +9,8 @@ use lib.Dec.{T, eqb, ltb}
 use borrow.Author.Tests.{ltb-true}
 use mathlib.Core.List.{List, [], _∷_}
 use lib.ListN.{getD}
-use Rattle.words.specs.Words.{pick}
+use Rattle.words.specs.Words.{pick, bitsOf}
+use Rattle.words.specs.Laws.{and-left, and-right}
 use Rattle.order.specs.Order.{usedOf, earliestOf, isOrder, later, each}
 
 -- a test that each number below n passes
@@ -17,24 +18,13 @@ unfoldable pub below : ℕ → (ℕ → Bool) → Bool
 below zero f = true
 below (suc n) f = f n && below n f
 
-first-true : (a b : Bool) → (a && b) ≡ true → a ≡ true
-first-true true b e = refl
-first-true false b e = e
-
-second-true : (a b : Bool) → (a && b) ≡ true → b ≡ true
-second-true true b e = e
-second-true false b e = absurd (not-true e)
-  where
-    not-true : false ≡ true → ⊥
-    not-true e = let z : _≡_ {A = ℕ} 0 1 = ap (λ b. elim b [ false ↦ 0 | true ↦ 1 ]) e in omega arith
-
 -- .. holds of each of them
 pub below-at : (n : ℕ) (f : ℕ → Bool) → below n f ≡ true → (k : ℕ) → k < n → f k ≡ true
 unfolding below
 below-at zero f e k h = absurd (not-suc-le-zero h)
 below-at (suc n) f e k h = elim (ℕ-discrete k n) [
-  | yes q ↦ subst (λ (m : ℕ). f m ≡ true) (sym q) (first-true (f n) (below n f) e)
-  | no q ↦ below-at n f (second-true (f n) (below n f) e) k (omega arith)
+  | yes q ↦ subst (λ (m : ℕ). f m ≡ true) (sym q) (and-left (f n) (below n f) e)
+  | no q ↦ below-at n f (and-right (f n) (below n f) e) k (omega arith)
 ]
 
 -- the table of a rule's n values from i on
@@ -94,3 +84,7 @@ earliest-small code h = ltb-true _ _ (below-at 64 (λ c. ltb (earliestOf c) 4) r
 pub marked : (b : Bool) → eqb (pick b 1 0) 1 ≡ b
 marked true = refl
 marked false = refl
+
+-- a code's own bits are its own
+pub code-again : (w : ℕ) → bitsOf (bitsOf w 5 0) 5 0 ≡ bitsOf w 5 0
+code-again w = omega arith

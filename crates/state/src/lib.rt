@@ -54,10 +54,10 @@ pub struct Transaction {
     pub write: bool,
     pub address: u32,
     pub words: u32,
-    pub global: bool,
-    pub intent: bool,
-    pub lock: bool,
-    pub inhibit: bool,
+    pub g: bool,
+    pub im: bool,
+    pub lk: bool,
+    pub ci: bool,
 }
 
 // The answer to an access; beside it stand its transactions in order, and the count of words moved.

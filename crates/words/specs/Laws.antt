@@ -1,7 +1,7 @@
 -- Laws of a word's bytes.
 use Prim.Native.Nat.{ℕ, _+_, _-_, _*_, _/_, _%_, _^_, _<_, _≤_}
 use mathlib.Core.Path.{_≡_, refl, sym, ap, _∙_}
-use mathlib.Core.Bool.{Bool, true, false}
+use mathlib.Core.Bool.{Bool, true, false, _&&_}
 use native.Mathlib.Omega.{arith}
 use lib.Pow.{shr-shr}
 use Rattle.words.specs.Words.{pick, bitsOf, bitOf, byteOf, laneOf, joinOf, mergeOf}
@@ -10,6 +10,16 @@ use Rattle.words.specs.Words.{pick, bitsOf, bitOf, byteOf, laneOf, joinO
 pub either {ℓ} : {A : Type ℓ} (P : A → Type 0) (b : Bool) {x y : A} → (b ≡ true → P x) → (b ≡ false → P y) → P (pick b x y)
 either P true p q = p refl
 either P false p q = q refl
+
+-- both parts of a test that both parts pass
+pub and-left : (a b : Bool) → (a && b) ≡ true → a ≡ true
+and-left true b e = refl
+and-left false b e = e
+
+pub and-right : (a b : Bool) → (a && b) ≡ true → b ≡ true
+and-right true b e = e
+and-right false true e = refl
+and-right false false e = e
 
 digits : (w a b c : ℕ) → a ≡ w / 256 → b ≡ a / 256 → c ≡ b / 256 → c < 256 → joinOf (c % 256) (b % 256) (a % 256) (w % 256) ≡ w
 digits w a b c ha hb hc small = omega arith
