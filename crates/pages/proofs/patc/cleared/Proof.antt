@@ -1,0 +1,15 @@
+use borrow.Author.Needs.{needs}
+use Rattle.pages.proofs.patc.cleared.Statement.{statement}
+use Rattle.pages.specs.Patc.{clearedWord}
+use Rattle.pages.proofs.patc.cleared.Tie as tie
+
+returns : tie.Need-returns
+unfolding clearedWord
+returns c = rw (← c .before .before .bit .ensures, ← c .before .named .ensures, c .if1 .taken)
+
+returns-2 : tie.Need-returns-2
+unfolding clearedWord
+returns-2 c = rw (← c .before .before .bit .ensures, ← c .before .named .ensures, c .if1 .left)
+
+pub cleared-spec : {M : Type 1} → statement M
+cleared-spec = tie.close (tie.spec (λ c κs. search needs) (λ c κs. search needs) (λ c. search needs) returns returns-2)

@@ -1,0 +1,5 @@
+pub mod Pages
+pub mod Patc
+pub mod Lookup
+pub mod Laws
+pub mod Rows
