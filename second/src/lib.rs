@@ -11,6 +11,7 @@ pub mod answer;
 pub mod bits;
 pub mod bus;
 pub mod cache;
+pub mod check;
 mod command;
 mod image;
 pub mod order;

@@ -1,0 +1,42 @@
+//! Millions of calls by seed: against the proved implementation where it is
+//! linked, and always against what must hold of the model.
+//!
+//! DIFFER_SEED sets the first seed, DIFFER_SCALE the number of calls in
+//! percent, DIFFER_OWN_BITS=1 lets bits that do not count differ.
+
+use second::check::differ::{Differ, Mix};
+use second::check::generate::Start;
+
+fn setting(name: &str, default: u64) -> u64 {
+    std::env::var(name).ok().and_then(|value| value.parse().ok()).unwrap_or(default)
+}
+
+#[test]
+fn sequences() {
+    let seed = setting("DIFFER_SEED", 1);
+    let scale = setting("DIFFER_SCALE", 100);
+    let mut differ = Differ::against_proved();
+    differ.own_bits_only = setting("DIFFER_OWN_BITS", 0) != 0;
+
+    // Start, mix, number of sequences, steps of each.
+    let runs = [
+        (Start::Reset, Mix::All, 900, 2000),
+        (Start::MadeUp, Mix::All, 10_000, 120),
+        (Start::Reset, Mix::Images, 60, 300),
+        (Start::MadeUp, Mix::Images, 60, 300),
+    ];
+    for (start, mix, sequences, steps) in runs {
+        for number in 0..(sequences * scale).div_ceil(100) {
+            if let Err(what) = differ.sequence(seed + number, start, mix, steps) {
+                panic!("{what}");
+            }
+        }
+    }
+
+    println!("{}", differ.coverage.summary());
+    assert_eq!(differ.coverage.unexpected_refusals(), [""; 0]);
+    if scale >= 100 {
+        assert_eq!(differ.coverage.missing(), [""; 0]);
+        assert!(differ.coverage.calls >= 2_000_000, "{} calls", differ.coverage.calls);
+    }
+}
