@@ -5,7 +5,8 @@
 //! percent, DIFFER_OWN_BITS=1 lets bits that do not count differ.
 
 use second::check::differ::{Differ, Mix};
-use second::check::generate::Start;
+use second::check::generate::{Generator, Start};
+use second::check::random::Random;
 
 fn setting(name: &str, default: u64) -> u64 {
     std::env::var(name).ok().and_then(|value| value.parse().ok()).unwrap_or(default)
@@ -20,8 +21,8 @@ fn sequences() {
 
     // Start, mix, number of sequences, steps of each.
     let runs = [
-        (Start::Reset, Mix::All, 900, 2000),
-        (Start::MadeUp, Mix::All, 10_000, 120),
+        (Start::Reset, Mix::All, 2000, 2000),
+        (Start::MadeUp, Mix::All, 15_000, 120),
         (Start::Reset, Mix::Images, 60, 300),
         (Start::MadeUp, Mix::Images, 60, 300),
     ];
@@ -38,5 +39,21 @@ fn sequences() {
     if scale >= 100 {
         assert_eq!(differ.coverage.missing(), [""; 0]);
         assert!(differ.coverage.calls >= 2_000_000, "{} calls", differ.coverage.calls);
+    }
+}
+
+/// The most memory that can be lent, and a little more.
+#[test]
+fn largest_memory() {
+    let lengths = [(4_194_304, 262_144), (4_194_308, 262_144), (4_194_304, 262_148)];
+    let seed = setting("DIFFER_SEED", 1);
+    for (ram, rom) in lengths {
+        for start in [Start::Reset, Start::MadeUp] {
+            let mut differ = Differ::against_proved();
+            let (generator, world) = Generator::with_memory(Random::new(seed), start, ram, rom);
+            if let Err((number, what)) = differ.steps(generator, world, (start, Mix::All), 60) {
+                panic!("RAM {ram}, ROM {rom}, seed {seed}, {start:?}, step {number}: {what}");
+            }
+        }
     }
 }

@@ -14,6 +14,15 @@ pub enum Mix {
     Images,
 }
 
+impl Mix {
+    fn next(self, generator: &mut Generator, world: &World) -> Step {
+        match self {
+            Mix::All => generator.next(world),
+            Mix::Images => generator.next_image(world),
+        }
+    }
+}
+
 /// Runs the model, and beside it another implementation if there is one.
 pub struct Differ {
     other: Option<Box<dyn Machine>>,
@@ -36,16 +45,29 @@ impl Differ {
         Differ::new(other)
     }
 
-    /// One sequence of so many steps.
+    /// One sequence of so many steps. What goes wrong is told with the call
+    /// and the state before it.
     pub fn sequence(&mut self, seed: u64, start: Start, mix: Mix, steps: usize) -> Result<(), String> {
-        let (mut generator, mut world) = Generator::new(seed, start);
+        let (generator, world) = Generator::new(seed, start);
+        self.steps(generator, world, (start, mix), steps).map_err(|(number, what)| {
+            let (generator, world) = Generator::new(seed, start);
+            let state = state_before(generator, world, mix, number);
+            format!("seed {seed}, {start:?}, {mix:?}, step {number}: {what}\n{state}")
+        })
+    }
+
+    /// The steps of a sequence; an error names the step.
+    pub fn steps(
+        &mut self,
+        mut generator: Generator,
+        mut world: World,
+        (start, mix): (Start, Mix),
+        steps: usize,
+    ) -> Result<(), (usize, String)> {
         let mut other = self.other.is_some().then(|| world.clone());
         for number in 0..steps {
-            let step = match mix {
-                Mix::All => generator.next(&world),
-                Mix::Images => generator.next_image(&world),
-            };
-            let at = |what: String| format!("seed {seed}, {start:?}, {mix:?}, step {number}: {step:?}\n{what}");
+            let step = mix.next(&mut generator, &world);
+            let at = |what: String| (number, format!("{step:?}\n{what}"));
             match &step {
                 Step::Set(part, index, value) => {
                     world.set(*part, *index, *value);
@@ -127,8 +149,36 @@ fn compare(
 }
 
 fn show(given: &Given) -> String {
-    let words: Vec<String> = given.reply.iter().map(|word| format!("{word:X}")).collect();
-    format!("refusal {}, reply [{}]", given.refusal, words.join(" "))
+    format!("refusal {}, reply {}", given.refusal, hex(&given.reply))
+}
+
+/// Words in hexadecimal, without those at the end that say nothing.
+fn hex(words: &[u32]) -> String {
+    let last = words.iter().rposition(|&word| word != 0 && word != UNTOUCHED).map_or(0, |last| last + 1);
+    let words: Vec<String> = words[..last].iter().map(|word| format!("{word:X}")).collect();
+    format!("[{}]", words.join(" "))
+}
+
+/// The state in which a step of a sequence found the model.
+fn state_before(mut generator: Generator, mut world: World, mix: Mix, number: usize) -> String {
+    for _ in 0..number {
+        match mix.next(&mut generator, &world) {
+            Step::Set(part, index, value) => world.set(part, index, value),
+            Step::Call(call) => drop(Model.call(&mut world, &call)),
+        }
+    }
+    let mut lines = vec![
+        format!("before: registers {}, fault {}", hex(&world.unit.regs), hex(&world.unit.fault)),
+        format!("memory lent: {:?}", world.lend),
+    ];
+    for (entry, pair) in world.unit.patc.chunks(2).enumerate().filter(|(_, pair)| pair[0] & 1 != 0) {
+        lines.push(format!("entry {entry}: {}", hex(pair)));
+    }
+    let sets = world.unit.lines.chunks(5).enumerate();
+    for (set, words) in sets.filter(|(_, words)| words[..4].iter().any(|tag| tag & 3 != 3)).take(12) {
+        lines.push(format!("set {set}: {}", hex(words)));
+    }
+    lines.join("\n")
 }
 
 /// The first word or byte in which two worlds differ.

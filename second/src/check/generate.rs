@@ -60,8 +60,13 @@ impl Generator {
     /// A generator and the world in which its sequence begins.
     pub fn new(seed: u64, start: Start) -> (Self, World) {
         let mut random = Random::new(seed);
-        let ram = random.pick(&[0, 16, 256, 1024, 4096, 4096, 4096, 8192, 16384]);
+        let ram = random.pick(&[0, 16, 256, 1024, 4096, 4096, 4096, 8192, 8192, 8192, 16384, 16384]);
         let rom = random.pick(&[0, 16, 1024, 4096, 4096]);
+        Generator::with_memory(random, start, ram, rom)
+    }
+
+    /// The same with memory of the given lengths in words.
+    pub fn with_memory(mut random: Random, start: Start, ram: usize, rom: usize) -> (Self, World) {
         let mut world = World::new(ram, rom);
         let plan = Plan::new(&mut random, start, ram as u32, rom as u32);
         let mut generator = Generator { random, plan, pending: VecDeque::new(), images: Vec::new() };
@@ -659,11 +664,13 @@ impl Plan {
         let mut physical = Vec::new();
         let ram_pages = ram.div_ceil(1024).max(1);
         let rom_pages = rom.div_ceil(1024).max(1);
+        // Often nearly all of it in RAM, so that most accesses end well.
+        let outside = random.pick(&[1, 8, 20]);
         for _ in 0..6 + random.below(10) {
-            let page = match random.below(20) {
-                0..=12 => random.below(ram_pages as usize) as u32 * 0x1000,
-                13..=17 => 0xFFE0_0000 + random.below(rom_pages as usize) as u32 * 0x1000,
-                18 => ram_pages * 0x1000,
+            let page = match random.below(100) {
+                n if n >= 2 * outside => random.below(ram_pages as usize) as u32 * 0x1000,
+                n if n >= outside / 2 => 0xFFE0_0000 + random.below(rom_pages as usize) as u32 * 0x1000,
+                n if n % 2 == 0 => ram_pages * 0x1000,
                 _ => random.pick(&[0x00FF_F000, 0x0100_0000, 0x7FFF_F000, 0xFFDF_F000, 0xFFEF_F000, 0xFFF0_0000]),
             };
             physical.push(page);
@@ -686,8 +693,8 @@ impl Plan {
             sets,
             physical,
             logical,
-            protected: random.pick(&[2, 10, 30]),
-            valid: random.pick(&[70, 90, 97, 100]),
+            protected: random.pick(&[0, 2, 10, 30]),
+            valid: random.pick(&[70, 95, 100, 100]),
             inhibited: random.pick(&[0, 5, 15, 30]),
             global: random.pick(&[0, 20, 50, 100]),
             through: random.pick(&[0, 15, 30, 60]),
