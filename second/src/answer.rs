@@ -36,82 +36,87 @@ pub enum Outcome {
     Fault(Fault),
 }
 
+/// What goes beside the address of a transaction.
+pub mod signal {
+    pub const WRITE: u32 = 1 << 0;
+    pub const GLOBAL: u32 = 1 << 1;
+    pub const INTENT: u32 = 1 << 2;
+    pub const LOCK: u32 = 1 << 3;
+    pub const INHIBIT: u32 = 1 << 4;
+}
+
 /// One transaction on the memory bus. Of a failed one the word count is 0.
 #[derive(Clone, Copy, Debug, Default, PartialEq, Eq)]
 pub struct Transaction {
-    pub write: bool,
-    pub global: bool,
-    pub intent: bool,
-    pub locked: bool,
-    pub inhibited: bool,
+    pub signals: u32,
     pub address: u32,
     pub words: u32,
 }
 
-impl Transaction {
-    /// Bits 0 to 4: write, G, IM, LK, CI.
-    pub fn bits(&self) -> u32 {
-        u32::from(self.write)
-            | u32::from(self.global) << 1
-            | u32::from(self.intent) << 2
-            | u32::from(self.locked) << 3
-            | u32::from(self.inhibited) << 4
-    }
-}
-
-/// The transactions of one access in order.
-#[derive(Clone, Copy, Debug, Default)]
-pub struct Transactions {
+/// What one access moved on the bus: its transactions in order, and the count
+/// of words, to which a command adds words that it does not list.
+#[derive(Clone, Copy, Debug, Default, PartialEq, Eq)]
+pub struct Traffic {
     list: [Transaction; TRANSACTIONS],
-    count: usize,
+    count: u32,
+    words: u32,
 }
 
-impl Transactions {
-    pub fn as_slice(&self) -> &[Transaction] {
-        self.list.get(..self.count).unwrap_or(&self.list)
+impl Traffic {
+    pub fn transactions(&self) -> &[Transaction] {
+        self.list.get(..self.count as usize).unwrap_or(&self.list)
     }
 
-    pub(crate) fn push(&mut self, transaction: Transaction) {
-        if let Some(place) = self.list.get_mut(self.count) {
+    pub fn words(&self) -> u32 {
+        self.words
+    }
+
+    pub(crate) fn list(&mut self, transaction: Transaction) {
+        if let Some(place) = self.list.get_mut(self.count as usize) {
             *place = transaction;
             self.count += 1;
+            self.words += transaction.words;
         }
     }
-}
 
-impl PartialEq for Transactions {
-    fn eq(&self, other: &Self) -> bool {
-        self.as_slice() == other.as_slice()
+    pub(crate) fn add_unlisted(&mut self, words: u32) {
+        self.words += words;
     }
 }
-
-impl Eq for Transactions {}
 
 /// The answer of an access.
 #[derive(Clone, Copy, Debug, PartialEq, Eq)]
 pub struct Answer {
     pub outcome: Outcome,
-    pub transactions: Transactions,
-    pub words: u32,
+    pub traffic: Traffic,
 }
 
 impl Answer {
     /// The answer as the 24 words of the C interface.
     pub fn reply(&self) -> [u32; 24] {
         let mut reply = [0; 24];
-        let head = match self.outcome {
-            Outcome::Idle => [0, 0, 0],
-            Outcome::Word(word) => [1, word, 0],
-            Outcome::Written => [2, 0, 0],
-            Outcome::Fault(fault) => [3, fault.code, fault.address],
-        };
-        reply[..3].copy_from_slice(&head);
-        reply[3] = self.words;
-        reply[4] = self.transactions.count as u32;
-        for (place, transaction) in reply[5..].chunks_exact_mut(3).zip(self.transactions.as_slice()) {
-            place.copy_from_slice(&[transaction.bits(), transaction.address, transaction.words]);
-        }
+        self.write_reply(&mut reply);
         reply
+    }
+
+    /// Writes all of the 24 words where they are wanted.
+    pub fn write_reply(&self, reply: &mut [u32; 24]) {
+        let (outcome, value, address) = match self.outcome {
+            Outcome::Idle => (0, 0, 0),
+            Outcome::Word(word) => (1, word, 0),
+            Outcome::Written => (2, 0, 0),
+            Outcome::Fault(fault) => (3, fault.code, fault.address),
+        };
+        let list = self.traffic.transactions();
+        reply[0] = outcome;
+        reply[1] = value;
+        reply[2] = address;
+        reply[3] = self.traffic.words();
+        reply[4] = list.len() as u32;
+        reply[5..].fill(0);
+        for (place, transaction) in reply[5..].chunks_exact_mut(3).zip(list) {
+            place.copy_from_slice(&[transaction.signals, transaction.address, transaction.words]);
+        }
     }
 }
 

@@ -1,6 +1,7 @@
 //! The memory that the host lends, and the bus on which an access reaches it.
 
-use crate::answer::{Fault, Transaction, Transactions};
+use crate::answer::signal::{INTENT, WRITE};
+use crate::answer::{Fault, Traffic, Transaction};
 
 /// Where ROM begins.
 pub const ROM_BASE: u32 = 0xFFE0_0000;
@@ -92,54 +93,44 @@ fn rom_index(address: u32) -> usize {
     (address.wrapping_sub(ROM_BASE) >> 2) as usize
 }
 
-/// The signals that go beside the address of a transaction.
-#[derive(Clone, Copy, Debug, Default)]
-pub struct Signals {
-    pub global: bool,
-    pub intent: bool,
-    pub locked: bool,
-    pub inhibited: bool,
-}
-
 /// The bus during one access: the memory and the list of what was done to it.
 pub struct Bus<'a> {
     pub memory: Memory<'a>,
-    pub transactions: Transactions,
-    pub words: u32,
+    pub traffic: Traffic,
 }
 
 impl<'a> Bus<'a> {
     pub fn new(memory: Memory<'a>) -> Self {
-        Bus { memory, transactions: Transactions::default(), words: 0 }
+        Bus { memory, traffic: Traffic::default() }
     }
 
-    pub fn read(&mut self, address: u32, signals: Signals) -> Result<u32, Fault> {
+    pub fn read(&mut self, address: u32, signals: u32) -> Result<u32, Fault> {
         let word = self.memory.read(address);
-        self.list(false, address, word.map_or(0, |_| 1), signals);
+        self.list(signals, address, word.map_or(0, |_| 1));
         word.map_err(|_| Fault::bus_error(address))
     }
 
-    pub fn write(&mut self, address: u32, data: u32, enables: u32, signals: Signals) -> Result<(), Fault> {
+    /// Writes the enabled bytes; a write intends to modify.
+    pub fn write(&mut self, address: u32, data: u32, enables: u32, signals: u32) -> Result<(), Fault> {
         let done = self.memory.write(address, data, enables);
-        self.list(true, address, done.map_or(0, |_| 1), signals);
+        self.list(signals | WRITE | INTENT, address, done.map_or(0, |_| 1));
         done.map_err(|_| Fault::bus_error(address))
     }
 
-    pub fn read_line(&mut self, address: u32, signals: Signals) -> Result<[u32; 4], Fault> {
+    pub fn read_line(&mut self, address: u32, signals: u32) -> Result<[u32; 4], Fault> {
         let words = self.memory.read_line(address).copied();
-        self.list(false, address, words.map_or(0, |_| 4), signals);
+        self.list(signals, address, words.map_or(0, |_| 4));
         words.map_err(|_| Fault::bus_error(address))
     }
 
-    pub fn write_line(&mut self, address: u32, words: &[u32; 4], signals: Signals) -> Result<(), Fault> {
+    /// Writes a whole line; a write intends to modify.
+    pub fn write_line(&mut self, address: u32, words: &[u32; 4], signals: u32) -> Result<(), Fault> {
         let done = self.memory.write_line(address, words);
-        self.list(true, address, done.map_or(0, |_| 4), signals);
+        self.list(signals | WRITE | INTENT, address, done.map_or(0, |_| 4));
         done.map_err(|_| Fault::bus_error(address))
     }
 
-    fn list(&mut self, write: bool, address: u32, words: u32, signals: Signals) {
-        let Signals { global, intent, locked, inhibited } = signals;
-        self.transactions.push(Transaction { write, global, intent, locked, inhibited, address, words });
-        self.words += words;
+    fn list(&mut self, signals: u32, address: u32, words: u32) {
+        self.traffic.list(Transaction { signals, address, words });
     }
 }

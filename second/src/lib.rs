@@ -20,7 +20,7 @@ mod registers;
 pub mod translate;
 pub mod unit;
 
-pub use answer::{Answer, Fault, Outcome, Snooped, Transaction, Transactions};
+pub use answer::{Answer, Fault, Outcome, Snooped, Traffic, Transaction};
 pub use command::Probe;
 pub use image::IMAGE;
 pub use unit::{Access, Snoop, Unit};

@@ -1,8 +1,8 @@
 //! From logical to physical: unmapped areas, BATC, PATC and the table search.
 
-use crate::answer::{Fault, PAGE_FAULT, SEGMENT_FAULT, SUPERVISOR_VIOLATION, WRITE_VIOLATION};
+use crate::answer::{signal, Fault, PAGE_FAULT, SEGMENT_FAULT, SUPERVISOR_VIOLATION, WRITE_VIOLATION};
 use crate::bits::*;
-use crate::bus::{Bus, BusError, Signals};
+use crate::bus::{Bus, BusError};
 use crate::unit::{Access, Unit, BWP0, PATC_ENTRIES, POINTER, SAPR, UAPR};
 
 /// A physical address with the attributes of its translation, which stand
@@ -132,14 +132,14 @@ impl Unit {
     /// Answers the translation and the frame word of its entry.
     fn search(&self, access: &Access, bus: &mut Bus) -> Result<(Translation, u32), Fault> {
         let area = self.area(access.supervisor);
-        let read = Signals { global: area & G != 0, ..Signals::default() };
-        let found = walk(area, access.address, |at| bus.read(at, read).map_err(|_| BusError))?;
+        let signals = if area & G != 0 { signal::GLOBAL } else { 0 };
+        let found = walk(area, access.address, |at| bus.read(at, signals).map_err(|_| BusError))?;
         let translation = found.translation.permit(access)?;
 
         let wanted = if access.write { U | M } else { U };
         let updated = found.descriptor | wanted;
         if updated != found.descriptor {
-            bus.write(found.descriptor_address, updated, 15, Signals { intent: true, ..read })?;
+            bus.write(found.descriptor_address, updated, 15, signals)?;
         }
         let attributes = translation.attributes | updated & M;
         let frame = (translation.address & PAGE | attributes) & PATC_FRAME_OWN;

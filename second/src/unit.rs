@@ -1,8 +1,9 @@
 //! The unit's state, its calls, and the path of an access.
 
+use crate::answer::signal::{GLOBAL, INHIBIT, INTENT, LOCK};
 use crate::answer::{Answer, Fault, Outcome, Snooped};
 use crate::bits::*;
-use crate::bus::{enabled_bits, Bus, Memory, Signals};
+use crate::bus::{enabled_bits, Bus, Memory};
 use crate::cache::{Cache, Place, EXCLUSIVE, INVALID, MODIFIED, SETS, SET_WORDS, SHARED};
 use crate::refusal::{self, Cells};
 use crate::translate::Translation;
@@ -125,7 +126,7 @@ impl Unit {
             self.fault = [fault.code << 16, fault.address];
             Outcome::Fault(fault)
         });
-        Ok(Answer { outcome, transactions: bus.transactions, words: bus.words })
+        Ok(Answer { outcome, traffic: bus.traffic })
     }
 
     fn run(&mut self, cells: &mut Cells, bus: &mut Bus, access: &Access) -> Result<Outcome, Fault> {
@@ -148,7 +149,8 @@ impl Unit {
         }
         let offset = access.address & 0xFFF;
         if access.write {
-            bus.words += self.store_register(cells, &mut bus.memory, offset, access.word);
+            let words = self.store_register(cells, &mut bus.memory, offset, access.word);
+            bus.traffic.add_unlisted(words);
             Ok(Outcome::Written)
         } else {
             Ok(Outcome::Word(self.load_register(offset)))
@@ -201,7 +203,7 @@ struct Path<'a, 'b, 'm> {
 
 impl Path<'_, '_, '_> {
     fn run(&mut self) -> Result<Outcome, Fault> {
-        if self.access.locked || self.translation.has(CI) {
+        if self.inhibited() {
             self.leave_cache()?;
             self.single_word()
         } else if self.access.write {
@@ -251,11 +253,10 @@ impl Path<'_, '_, '_> {
         let address = self.translation.address;
         let place = self.cache.victim(address);
         if self.cache.state(place) == MODIFIED {
-            let signals = Signals { global: false, intent: true, ..self.signals() };
-            self.bus.write_line(self.cache.address(place), self.cache.words(place), signals)?;
+            self.copy_back(place, self.signals() & !GLOBAL)?;
         }
-        let signals = Signals { intent: self.access.write, ..self.signals() };
-        match self.bus.read_line(address & LINE, signals) {
+        let intent = if self.access.write { INTENT } else { 0 };
+        match self.bus.read_line(address & LINE, self.signals() | intent) {
             Ok(words) => {
                 self.cache.fill(place, address, &words);
                 Ok(place)
@@ -278,12 +279,15 @@ impl Path<'_, '_, '_> {
     fn leave_cache(&mut self) -> Result<(), Fault> {
         if let Some(place) = self.cache.find(self.translation.address) {
             if self.cache.state(place) == MODIFIED {
-                let signals = Signals { intent: true, ..self.signals() };
-                self.bus.write_line(self.cache.address(place), self.cache.words(place), signals)?;
+                self.copy_back(place, self.signals())?;
             }
             self.cache.set_state(place, INVALID);
         }
         Ok(())
+    }
+
+    fn copy_back(&mut self, place: Place, signals: u32) -> Result<(), Fault> {
+        self.bus.write_line(self.cache.address(place), self.cache.words(place), signals)
     }
 
     /// The one word of an inhibited access.
@@ -292,26 +296,27 @@ impl Path<'_, '_, '_> {
             self.write_memory()?;
             return Ok(Outcome::Written);
         }
-        let locked = self.access.locked;
-        let signals = Signals { intent: locked, locked, ..self.signals() };
-        let word = self.bus.read(self.translation.address, signals)?;
+        let lock = if self.access.locked { LOCK | INTENT } else { 0 };
+        let word = self.bus.read(self.translation.address, self.signals() | lock)?;
         Ok(Outcome::Word(word & enabled_bits(self.access.enables)))
     }
 
     /// Writes the access's bytes into memory.
     fn write_memory(&mut self) -> Result<(), Fault> {
         let Access { enables, word, locked, .. } = *self.access;
-        let signals = Signals { intent: true, locked, ..self.signals() };
-        self.bus.write(self.translation.address, word, enables, signals)
+        let lock = if locked { LOCK } else { 0 };
+        self.bus.write(self.translation.address, word, enables, self.signals() | lock)
     }
 
-    /// G and CI of the access's own transactions; IM and LK clear.
-    fn signals(&self) -> Signals {
-        Signals {
-            global: self.translation.has(G),
-            intent: false,
-            locked: false,
-            inhibited: self.access.locked || self.translation.has(CI),
-        }
+    /// G and CI of the access's own transactions.
+    fn signals(&self) -> u32 {
+        let global = if self.translation.has(G) { GLOBAL } else { 0 };
+        let inhibit = if self.inhibited() { INHIBIT } else { 0 };
+        global | inhibit
+    }
+
+    /// Whether the access goes past the cache.
+    fn inhibited(&self) -> bool {
+        self.access.locked || self.translation.has(CI)
     }
 }

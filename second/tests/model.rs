@@ -215,7 +215,7 @@ fn control_space_counts_the_words_of_a_command() {
     board.put_line(2, 2, 0, MODIFIED, 6);
     let answer = board.access(0xFFF7_F004, SUPERVISOR | WRITE, 15, 0xFFFF_FFDB);
     assert_eq!(answer.outcome, Outcome::Written);
-    assert_eq!((answer.words, answer.transactions.as_slice().len()), (8, 0));
+    assert_eq!((answer.traffic.words(), answer.traffic.transactions().len()), (8, 0));
     assert_eq!(board.get(SCR), 0x1B);
     assert_eq!(board.peek(0x1C), 5);
     assert_eq!(board.peek(0x2C), 6);
@@ -289,9 +289,8 @@ fn search_accumulates_the_attributes() {
             let answer = board.access(0x00C0_5124, SUPERVISOR, 15, 0);
             assert!(matches!(answer.outcome, Outcome::Word(0xA124)));
             assert_eq!(board.entry(0), (0x00C0_5003, 0xA000 | bit));
-            let search = answer.transactions.as_slice()[0];
-            assert_eq!(search.global, place == 0 && bit == G);
-            assert!(!search.inhibited);
+            let global = if place == 0 && bit == G { 2 } else { 0 };
+            assert_eq!(answer.traffic.transactions()[0].signals, global);
         }
     }
 }
@@ -315,8 +314,8 @@ fn search_updates_u_and_m() {
         let answer = board.access(0x00C0_5124, if write { WRITE } else { USER }, 15, 0);
         assert_eq!(board.peek(0x6014), 0xA000 | V | 0xC22 | new);
         assert_eq!(board.entry(0), (0x00C0_5001, 0xA000 | WT & 0xC22 | new & M));
-        let list = answer.transactions.as_slice();
-        assert_eq!(list[2].write && list[2].address == 0x6014, goes_out);
+        let list = answer.traffic.transactions();
+        assert_eq!(list[2].signals & 1 != 0 && list[2].address == 0x6014, goes_out);
     }
 }
 
@@ -570,7 +569,7 @@ fn longest_access_lists_six_transactions_and_moves_twelve_words() {
         transaction("i", 0xC120, 4),
         transaction("wi", 0xC124, 1),
     ]);
-    assert_eq!(answer.words, 12);
+    assert_eq!(answer.traffic.words(), 12);
     let reply = answer.reply();
     assert_eq!(reply[..8], [2, 0, 0, 12, 6, 0, 0x400C, 1]);
     assert_eq!(reply[20..], [5, 0xC124, 1, 0]);

@@ -9,8 +9,9 @@ use second::check::random::Random;
 use second::check::world::World;
 use second::IMAGE;
 
-const ROUNDS: usize = 9;
-const CALLS: usize = 200_000;
+/// Many short rounds, of which the best counts.
+const ROUNDS: usize = 300;
+const CALLS: usize = 20_000;
 
 const SUPERVISOR: u32 = 0x80;
 const WRITE: u32 = 0x40;
@@ -70,63 +71,64 @@ fn map(world: &mut World) {
 
 const MAPPED: u32 = 0x3FE << 22;
 
-/// Best time per call of a trace, in nanoseconds.
-fn time(machine: &impl Machine, start: &World, trace: &Trace) -> f64 {
-    let mut world = start.clone();
-    run(machine, &mut world, trace);
-    best(|| {
+/// Times one round of a benchmark on a world, in nanoseconds per call.
+trait Round {
+    fn round<T: Machine>(&self, machine: &T, world: &mut World) -> f64;
+}
+
+/// All accesses of a trace.
+struct Accesses<'a>(&'a Trace);
+
+impl Round for Accesses<'_> {
+    fn round<T: Machine>(&self, machine: &T, world: &mut World) -> f64 {
         let clock = Instant::now();
-        run(machine, &mut world, trace);
-        clock.elapsed().as_nanos() as f64 / trace.len() as f64
-    })
-}
-
-/// Best time of a call that is set up anew each time, in nanoseconds.
-fn time_one(machine: &impl Machine, start: &World, call: impl Fn(&dyn Machine, &mut World)) -> f64 {
-    let mut world = start.clone();
-    best(|| {
-        let mut total = 0;
-        for _ in 0..200 {
-            world.unit.clone_from(&start.unit);
-            let clock = Instant::now();
-            call(machine, &mut world);
-            total += clock.elapsed().as_nanos();
-        }
-        total as f64 / 200.0
-    })
-}
-
-fn best(mut round: impl FnMut() -> f64) -> f64 {
-    (0..ROUNDS).map(|_| round()).fold(f64::INFINITY, f64::min)
-}
-
-/// One line of the table.
-fn report(name: &str, proved: Option<f64>, second: f64) {
-    match proved {
-        Some(proved) => println!("{name:<28} {proved:>10.1} {second:>10.1} {:>8.2}", proved / second),
-        None => println!("{name:<28} {:>10} {second:>10.1} {:>8}", "-", "-"),
+        run(machine, world, self.0);
+        clock.elapsed().as_nanos() as f64 / self.0.len() as f64
     }
 }
 
-#[cfg(have_proved)]
-fn proved(time: impl Fn(&second::check::proved::Proved) -> f64) -> Option<f64> {
-    Some(time(&second::check::proved::Proved))
+/// A longer call, for which the unit is set up anew each time.
+struct Once<'a, F: Fn(&dyn Machine, &mut World)>(&'a World, F);
+
+impl<F: Fn(&dyn Machine, &mut World)> Round for Once<'_, F> {
+    fn round<T: Machine>(&self, machine: &T, world: &mut World) -> f64 {
+        const TIMES: u32 = 20;
+        let mut total = 0;
+        for _ in 0..TIMES {
+            world.unit.clone_from(&self.0.unit);
+            let clock = Instant::now();
+            (self.1)(machine, world);
+            total += clock.elapsed().as_nanos();
+        }
+        total as f64 / f64::from(TIMES)
+    }
 }
 
-/// Without the library the times of the proved implementation are left out.
-#[cfg(not(have_proved))]
-fn proved(_: impl Fn(&Model) -> f64) -> Option<f64> {
-    None
+/// The best rounds of both implementations, taken in turn, as a line.
+fn line(name: &str, start: &World, round: impl Round) {
+    let mut second = (start.clone(), f64::INFINITY);
+    #[cfg(have_proved)]
+    let mut proved = (start.clone(), f64::INFINITY);
+    for _ in 0..ROUNDS {
+        second.1 = second.1.min(round.round(&Model, &mut second.0));
+        #[cfg(have_proved)]
+        {
+            proved.1 = proved.1.min(round.round(&second::check::proved::Proved, &mut proved.0));
+        }
+    }
+    let second = second.1;
+    #[cfg(have_proved)]
+    println!("{name:<28} {:>10.1} {second:>10.1} {:>8.2}", proved.1, proved.1 / second);
+    #[cfg(not(have_proved))]
+    println!("{name:<28} {:>10} {second:>10.1} {:>8}", "-", "-");
 }
 
 fn trace_line(name: &str, world: &World, trace: &Trace) {
-    let theirs = proved(|machine| time(machine, world, trace));
-    report(name, theirs, time(&Model, world, trace));
+    line(name, world, Accesses(trace));
 }
 
 fn call_line(name: &str, world: &World, call: impl Fn(&dyn Machine, &mut World)) {
-    let theirs = proved(|machine| time_one(machine, world, &call));
-    report(name, theirs, time_one(&Model, world, &call));
+    line(name, world, Once(world, call));
 }
 
 fn flush(machine: &dyn Machine, world: &mut World) {

@@ -71,12 +71,12 @@ impl Machine for Model {
         let [address, kind, enables, word] = access;
         let access = Access::new(address, kind, enables, word);
         let World { unit, cells, ram, rom, .. } = world;
-        match unit.access(&mut cells[..lend.cells], &mut ram[..lend.ram], &rom[..lend.rom], &access) {
+        match &unit.access(&mut cells[..lend.cells], &mut ram[..lend.ram], &rom[..lend.rom], &access) {
             Ok(answer) => {
-                *reply = answer.reply();
+                answer.write_reply(reply);
                 0
             }
-            Err(number) => number,
+            Err(number) => *number,
         }
     }
 

@@ -161,23 +161,16 @@ impl Board {
 
 /// A transaction by its letters: w write, g G, i IM, l LK, c CI.
 pub fn transaction(letters: &str, address: u32, words: u32) -> Transaction {
-    Transaction {
-        write: letters.contains('w'),
-        global: letters.contains('g'),
-        intent: letters.contains('i'),
-        locked: letters.contains('l'),
-        inhibited: letters.contains('c'),
-        address,
-        words,
-    }
+    let signals = letters.chars().map(|letter| 1 << "wgilc".find(letter).unwrap()).sum();
+    Transaction { signals, address, words }
 }
 
 /// Demands an outcome, a list of transactions, and the sum as word count.
 #[track_caller]
 pub fn expect(answer: &Answer, outcome: Outcome, list: &[Transaction]) {
     assert_eq!(answer.outcome, outcome);
-    assert_eq!(answer.transactions.as_slice(), list);
-    assert_eq!(answer.words, list.iter().map(|transaction| transaction.words).sum::<u32>());
+    assert_eq!(answer.traffic.transactions(), list);
+    assert_eq!(answer.traffic.words(), list.iter().map(|transaction| transaction.words).sum::<u32>());
 }
 
 pub fn fault(code: u32, address: u32) -> Outcome {
