@@ -51,11 +51,7 @@ impl<'a> Memory<'a> {
     }
 
     pub fn read(&self, address: u32) -> Result<u32, BusError> {
-        self.ram
-            .get(ram_index(address))
-            .or_else(|| self.rom.get(rom_index(address)))
-            .copied()
-            .ok_or(BusError)
+        self.ram.get(ram_index(address)).or_else(|| self.rom.get(rom_index(address))).copied().ok_or(BusError)
     }
 
     pub fn write(&mut self, address: u32, data: u32, enables: u32) -> Result<(), BusError> {
@@ -79,9 +75,7 @@ impl<'a> Memory<'a> {
 /// The part of RAM or of ROM where a line stands, else an empty part.
 pub fn line_part<'a>(ram: &'a [u32], rom: &'a [u32], address: u32) -> &'a [u32] {
     let (in_ram, in_rom) = (ram_index(address), rom_index(address));
-    ram.get(in_ram..in_ram + 4)
-        .or_else(|| rom.get(in_rom..in_rom + 4))
-        .unwrap_or(&[])
+    ram.get(in_ram..in_ram + 4).or_else(|| rom.get(in_rom..in_rom + 4)).unwrap_or(&[])
 }
 
 fn ram_index(address: u32) -> usize {

@@ -58,12 +58,10 @@ impl<'a> Cache<'a> {
     /// The lowest valid line with the tag of a physical address.
     pub fn find(&self, address: u32) -> Option<Place> {
         let set = set_of(address);
-        (0..LINES)
-            .map(|line| Place { set, line })
-            .find(|place| {
-                let word = self.lines[place.tag_index()];
-                (word ^ address) & PAGE == 0 && word & STATE != INVALID
-            })
+        (0..LINES).map(|line| Place { set, line }).find(|place| {
+            let word = self.lines[place.tag_index()];
+            (word ^ address) & PAGE == 0 && word & STATE != INVALID
+        })
     }
 
     /// The line to be filled on a miss.

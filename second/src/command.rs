@@ -90,9 +90,7 @@ impl Unit {
             return found(page.attributes | U, page.address, 0);
         }
         let mut words = 0;
-        let end = walk(self.area(supervisor), address, |at| {
-            memory.read(at).inspect(|_| words += 1)
-        });
+        let end = walk(self.area(supervisor), address, |at| memory.read(at).inspect(|_| words += 1));
         match end {
             Ok(walk) => found(walk.translation.attributes, walk.translation.address, words),
             Err(fault) if fault.code == BUS_ERROR => Probe { status: BE, address: fault.address, words },

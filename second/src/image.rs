@@ -45,9 +45,8 @@ const FIELDS: [Field; 5] = [REGISTERS, PORTS, ENTRIES, LINES, CELLS];
 const _: () = assert!(CELLS.end() == IMAGE);
 
 /// Own bits of the first field's words.
-const REGISTERS_OWN: [u32; 10] = [
-    IDR_OWN, SCR_OWN, SSR_OWN, u32::MAX, SCTR_OWN, PFSR_OWN, u32::MAX, AREA_OWN, AREA_OWN, u32::MAX,
-];
+const REGISTERS_OWN: [u32; 10] =
+    [IDR_OWN, SCR_OWN, SSR_OWN, u32::MAX, SCTR_OWN, PFSR_OWN, u32::MAX, AREA_OWN, AREA_OWN, u32::MAX];
 const ENTRY_OWN: [u32; 2] = [PATC_PAGE_OWN, PATC_FRAME_OWN];
 const SET_OWN: [u32; SET_WORDS] = [TAG_OWN, TAG_OWN, TAG_OWN, TAG_OWN, USE_OWN];
 
@@ -163,7 +162,8 @@ fn only_own_bits(words: &[u32], own: &[u32]) -> bool {
 
 /// Writes words with their own bits, taken in turn, as a field's content.
 fn put(out: &mut [u8], field: Field, words: &[u32], own: &[u32]) {
-    let masked = words.chunks_exact(own.len()).flat_map(|row| row.iter().zip(own)).map(|(word, own)| word & own);
+    let masked =
+        words.chunks_exact(own.len()).flat_map(|row| row.iter().zip(own)).map(|(word, own)| word & own);
     for (bytes, word) in out[field.start..field.end()].chunks_exact_mut(4).zip(masked) {
         bytes.copy_from_slice(&word.to_be_bytes());
     }

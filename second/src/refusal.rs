@@ -23,11 +23,11 @@ pub const CELLS: usize = 4096;
 pub type Cells = [u32; CELLS];
 
 pub fn ram(ram: &[u32]) -> Result<(), u32> {
-    demand(ram.len() % 4 == 0 && ram.len() <= RAM_MOST, RAM_LENGTH)
+    demand(ram.len().is_multiple_of(4) && ram.len() <= RAM_MOST, RAM_LENGTH)
 }
 
 pub fn rom(rom: &[u32]) -> Result<(), u32> {
-    demand(rom.len() % 4 == 0 && rom.len() <= ROM_MOST, ROM_LENGTH)
+    demand(rom.len().is_multiple_of(4) && rom.len() <= ROM_MOST, ROM_LENGTH)
 }
 
 pub fn cells(cells: &[u32]) -> Result<&Cells, u32> {
@@ -39,7 +39,7 @@ pub fn cells_mut(cells: &mut [u32]) -> Result<&mut Cells, u32> {
 }
 
 pub fn address(address: u32) -> Result<(), u32> {
-    demand(address % 4 == 0, ADDRESS)
+    demand(address.is_multiple_of(4), ADDRESS)
 }
 
 pub fn enables(enables: u32) -> Result<(), u32> {
@@ -47,7 +47,7 @@ pub fn enables(enables: u32) -> Result<(), u32> {
 }
 
 pub fn offset(offset: u32) -> Result<(), u32> {
-    demand(offset <= 4092 && offset % 4 == 0, OFFSET)
+    demand(offset <= 4092 && offset.is_multiple_of(4), OFFSET)
 }
 
 /// Refuses with the number unless the condition holds.

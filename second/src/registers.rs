@@ -29,7 +29,7 @@ fn register(offset: u32) -> Register {
         0x10C => Register::Fault(1, u32::MAX),
         0x200 => Register::Unit(SAPR, AREA_OWN),
         0x204 => Register::Unit(UAPR, AREA_OWN),
-        0x400..=0x41C => Register::Port((offset - 0x400) as usize / 4 & 7),
+        0x400..=0x41C => Register::Port(((offset - 0x400) as usize / 4) & 7),
         _ => Register::Nothing,
     }
 }

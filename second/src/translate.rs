@@ -122,10 +122,7 @@ impl Unit {
     /// The translation by a PATC entry, U clear.
     pub(crate) fn entry_translation(&self, entry: usize, address: u32) -> Translation {
         let frame = self.patc[2 * entry + 1];
-        Translation {
-            address: frame & PAGE | address & !PAGE,
-            attributes: frame & (PATC_FRAME_OWN & !PAGE),
-        }
+        Translation { address: frame & PAGE | address & !PAGE, attributes: frame & (PATC_FRAME_OWN & !PAGE) }
     }
 
     /// The table search of an access, with the update of the page descriptor.

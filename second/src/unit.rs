@@ -27,8 +27,8 @@ pub const CONTROL_SPACE: u32 = 0xFFF0_0000;
 /// The component type in IDR.
 const COMPONENT_TYPE: u32 = 0b101 << 21;
 
-/// The state of one unit. Every word may hold any value: of a pointer over 55
-/// nothing counts, of the other words only their own bits.
+/// The state of one unit. Every word may hold any value: a pointer over 55
+/// counts as 0, of the other words only their own bits count.
 #[derive(Clone, Debug, PartialEq, Eq)]
 pub struct Unit {
     /// IDR SCR SSR SAR SCTR SAPR UAPR, the PATC pointer, BWP0 to BWP7.

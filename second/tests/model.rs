@@ -203,9 +203,11 @@ fn control_space_is_the_units_page_or_a_bus_error() {
         }
     }
     expect(&board.read(registers), fault(3, registers), &[transaction("", registers, 0)]);
-    expect(&board.access(0xFFEF_FFFC, SUPERVISOR, 15, 0), fault(3, 0xFFEF_FFF0), &[
-        transaction("", 0xFFEF_FFF0, 0),
-    ]);
+    expect(
+        &board.access(0xFFEF_FFFC, SUPERVISOR, 15, 0),
+        fault(3, 0xFFEF_FFF0),
+        &[transaction("", 0xFFEF_FFF0, 0)],
+    );
 }
 
 #[test]
@@ -245,7 +247,11 @@ fn unmapped_comes_before_the_batc() {
 fn unmapped_takes_the_attributes_of_the_area() {
     let mut board = Board::new(64, 0);
     board.set(UAPR, WT | G);
-    expect(&board.write(0x10, 1), Outcome::Written, &[transaction("gi", 0x10, 4), transaction("wgi", 0x10, 1)]);
+    expect(
+        &board.write(0x10, 1),
+        Outcome::Written,
+        &[transaction("gi", 0x10, 4), transaction("wgi", 0x10, 1)],
+    );
     assert_eq!(board.tag(1, 0), SHARED);
     board.set(SAPR, CI);
     expect(&board.access(0x20, SUPERVISOR, 15, 0), Outcome::Word(0x20), &[transaction("c", 0x20, 1)]);
@@ -364,12 +370,16 @@ fn renewal_takes_the_tables_as_they_are_now() {
     board.put_entry(9, 0x00C0_5001, 0xC000 | M);
     board.poke(0x6014, 0xD000 | V | U | M | G);
     let answer = board.write(0x00C0_5124, 1);
-    expect(&answer, Outcome::Written, &[
-        transaction("", 0x400C, 1),
-        transaction("", 0x6014, 1),
-        transaction("gi", 0xD120, 4),
-        transaction("wgi", 0xD124, 1),
-    ]);
+    expect(
+        &answer,
+        Outcome::Written,
+        &[
+            transaction("", 0x400C, 1),
+            transaction("", 0x6014, 1),
+            transaction("gi", 0xD120, 4),
+            transaction("wgi", 0xD124, 1),
+        ],
+    );
     assert_eq!(board.entry(3), (0x00C0_5001, 0xD000 | G | M));
     assert_eq!(board.entry(9), (0x00C0_5001, 0xC000 | M));
 
@@ -385,11 +395,11 @@ fn locked_read_is_no_write_for_protection() {
     let mut board = Board::mapped();
     board.poke(0x6014, 0xA000 | V | WP | U);
     let answer = board.access(0x00C0_5124, LOCK, 15, 0);
-    expect(&answer, Outcome::Word(0xA124), &[
-        transaction("", 0x400C, 1),
-        transaction("", 0x6014, 1),
-        transaction("ilc", 0xA124, 1),
-    ]);
+    expect(
+        &answer,
+        Outcome::Word(0xA124),
+        &[transaction("", 0x400C, 1), transaction("", 0x6014, 1), transaction("ilc", 0xA124, 1)],
+    );
     assert_eq!(board.peek(0x6014), 0xA000 | V | WP | U);
 }
 
@@ -418,9 +428,11 @@ fn use_codes_follow_the_pairs() {
         };
         let earliest = (0..4).find(|&a| (0..4).all(|b| a == b || earlier(a, b)));
         assert_eq!(UseOrder::new(code).earliest(), earliest);
-        let cyclic = (0..4).any(|a| (0..4).any(|b| (0..4).any(|c| {
-            a != b && b != c && a != c && earlier(a, b) && earlier(b, c) && earlier(c, a)
-        })));
+        let cyclic = (0..4).any(|a| {
+            (0..4).any(|b| {
+                (0..4).any(|c| a != b && b != c && a != c && earlier(a, b) && earlier(b, c) && earlier(c, a))
+            })
+        });
         assert_eq!(UseOrder::new(code).is_order(), !cyclic);
     }
     assert_eq!((0..64).filter(|&code| UseOrder::new(code).is_order()).count(), 24);
@@ -561,14 +573,18 @@ fn longest_access_lists_six_transactions_and_moves_twelve_words() {
     }
     board.poke(0x6014, 0xC000 | V);
     let answer = board.write(0x00C0_5124, 1);
-    expect(&answer, Outcome::Written, &[
-        transaction("", 0x400C, 1),
-        transaction("", 0x6014, 1),
-        transaction("wi", 0x6014, 1),
-        transaction("wi", 0x8120, 4),
-        transaction("i", 0xC120, 4),
-        transaction("wi", 0xC124, 1),
-    ]);
+    expect(
+        &answer,
+        Outcome::Written,
+        &[
+            transaction("", 0x400C, 1),
+            transaction("", 0x6014, 1),
+            transaction("wi", 0x6014, 1),
+            transaction("wi", 0x8120, 4),
+            transaction("i", 0xC120, 4),
+            transaction("wi", 0xC124, 1),
+        ],
+    );
     assert_eq!(answer.traffic.words(), 12);
     let reply = answer.reply();
     assert_eq!(reply[..8], [2, 0, 0, 12, 6, 0, 0x400C, 1]);
@@ -617,11 +633,8 @@ fn bus_error_at_the_descriptor_update() {
         let mut board = Board::mapped();
         board.poke(0x400C, ROM | V);
         board.rom[5] = 0xA000 | V | if kind == WRITE { U } else { 0 };
-        let list = [
-            transaction("", 0x400C, 1),
-            transaction("", ROM + 0x14, 1),
-            transaction("wi", ROM + 0x14, 0),
-        ];
+        let list =
+            [transaction("", 0x400C, 1), transaction("", ROM + 0x14, 1), transaction("wi", ROM + 0x14, 0)];
         fails(board, (0x00C0_5124, kind), (3, ROM + 0x14), &list, |_| ());
     }
 }
@@ -641,11 +654,7 @@ fn bus_error_when_renewing_leaves_the_entry() {
     board.put_entry(0, 0x00C0_5001, 0xA000);
     board.poke(0x400C, ROM | V);
     board.rom[5] = 0xA000 | V | U;
-    let list = [
-        transaction("", 0x400C, 1),
-        transaction("", ROM + 0x14, 1),
-        transaction("wi", ROM + 0x14, 0),
-    ];
+    let list = [transaction("", 0x400C, 1), transaction("", ROM + 0x14, 1), transaction("wi", ROM + 0x14, 0)];
     fails(board, (0x00C0_5124, WRITE), (3, ROM + 0x14), &list, |_| ());
 }
 
@@ -695,10 +704,8 @@ fn bus_error_at_the_word_after_a_fill() {
         let mut board = Board::new(64, 64);
         board.set(UAPR, area);
         let g = if area & G != 0 { "g" } else { "" };
-        let list = [
-            transaction(&format!("{g}i"), ROM + 0x20, 4),
-            transaction(&format!("w{g}i"), ROM + 0x28, 0),
-        ];
+        let list =
+            [transaction(&format!("{g}i"), ROM + 0x20, 4), transaction(&format!("w{g}i"), ROM + 0x28, 0)];
         fails(board, (ROM + 0x28, WRITE), (3, ROM + 0x28), &list, |board| {
             board.unit.lines[10] = ROM | SHARED;
             board.cells[32..36].copy_from_slice(&[ROM + 0x20, ROM + 0x24, ROM + 0x28, ROM + 0x2C]);
@@ -708,12 +715,9 @@ fn bus_error_at_the_word_after_a_fill() {
 
 #[test]
 fn bus_error_at_the_word_of_a_write_hit() {
-    for (area, state, letters) in [
-        (WT, EXCLUSIVE, "wi"),
-        (WT, MODIFIED, "wi"),
-        (WT | G, SHARED, "wgi"),
-        (G, SHARED, "wgi"),
-    ] {
+    for (area, state, letters) in
+        [(WT, EXCLUSIVE, "wi"), (WT, MODIFIED, "wi"), (WT | G, SHARED, "wgi"), (G, SHARED, "wgi")]
+    {
         let mut board = Board::new(64, 64);
         board.set(UAPR, area);
         board.put_line(2, 1, ROM, state, 0x77);
@@ -736,7 +740,13 @@ fn bus_error_at_an_inhibited_access() {
             let mut board = Board::new(64, 0);
             board.set(UAPR, CI);
             board.put_line(2, 1, ROM, SHARED, 0x77);
-            let i = if write != 0 { "wi" } else if kind == LOCK { "i" } else { "" };
+            let i = if write != 0 {
+                "wi"
+            } else if kind == LOCK {
+                "i"
+            } else {
+                ""
+            };
             let list = [transaction(&format!("{i}{l}c"), ROM + 0x24, 0)];
             fails(board, (ROM + 0x24, kind | write), (3, ROM + 0x24), &list, |board| {
                 board.unit.lines[11] = ROM | INVALID;
@@ -801,7 +811,7 @@ fn busy() -> Board {
     }
     for entry in 0..56u32 {
         let page = [0x1000, 0x2000, 0x0040_1000][entry as usize % 3];
-        board.put_entry(entry as usize, page | entry / 3 % 4, 0x5000 | M);
+        board.put_entry(entry as usize, page | (entry / 3 % 4), 0x5000 | M);
     }
     board.set(SSR, CE | BE | V);
     board
@@ -884,7 +894,9 @@ fn probe_reports_each_kind_of_translation() {
     assert_eq!((board.get(SSR), board.get(SAR)), (V | BH | WT | G | CI | WP, 0x0010_1233));
 
     // PATC.
-    for (frame, status) in [(0xB000, U | V), (0xB000 | WT | SP | G | CI | M | WP, V | U | WT | SP | G | CI | M | WP)] {
+    for (frame, status) in
+        [(0xB000, U | V), (0xB000 | WT | SP | G | CI | M | WP, V | U | WT | SP | G | CI | M | WP)]
+    {
         board.put_entry(40, 0x00C0_5001, frame);
         assert_eq!(board.command(0x20, 0x00C0_5FFF), 0);
         assert_eq!((board.get(SSR), board.get(SAR)), (status, 0xBFFF));
@@ -992,7 +1004,9 @@ fn image_has_its_layout() {
     board.set(BWP0 + 28, 0xCAFE_F00D);
     let image = board.save();
     let word = |at: usize| u32::from_be_bytes(image[at..at + 4].try_into().unwrap());
-    for (start, (tag, length)) in CONTENTS.into_iter().zip([(1, 40), (2, 32), (3, 448), (4, 5120), (5, 16384)]) {
+    for (start, (tag, length)) in
+        CONTENTS.into_iter().zip([(1, 40), (2, 32), (3, 448), (4, 5120), (5, 16384)])
+    {
         assert_eq!(word(start - 3) >> 24, tag);
         assert_eq!(word(start - 3) >> 8 & 0xFFFF, length);
     }
@@ -1010,7 +1024,7 @@ fn image_has_its_layout() {
 fn image_brings_everything_back() {
     let mut board = Board::mapped();
     for n in 0..2000u32 {
-        board.access(0x00C0_5000 | n * 52 & 0xFFC, n * 64 & 0x40 | n * 7 & 0x80, 15, n);
+        board.access(0x00C0_5000 | (n * 52) & 0xFFC, (n * 64) & 0x40 | (n * 7) & 0x80, 15, n);
         board.write(n * 4, n);
     }
     board.set(BWP0 + 8, 0xDEAD_BEEF);
@@ -1029,7 +1043,10 @@ fn image_of_a_made_up_state_has_own_bits_only() {
     unit.save(&[1; 4096], &mut image).unwrap();
     let word = |at: usize| u32::from_be_bytes(image[at..at + 4].try_into().unwrap());
     let registers: Vec<u32> = (0..10).map(|n| word(3 + 4 * n)).collect();
-    assert_eq!(registers, [0xFFFF_0000, 0x3F, 0xC3DF, !0, 0xE000, 0x0007_0000, !0, 0xFFFF_F2C1, 0xFFFF_F2C1, 0]);
+    assert_eq!(
+        registers,
+        [0xFFFF_0000, 0x3F, 0xC3DF, !0, 0xE000, 0x0007_0000, !0, 0xFFFF_F2C1, 0xFFFF_F2C1, 0]
+    );
     assert_eq!((word(81), word(85)), (0xFFFF_F003, 0xFFFF_F3D4));
     assert_eq!((word(532), word(532 + 16)), (0xFFFF_F003, 0x3F));
 }
@@ -1056,7 +1073,8 @@ fn image_with_a_wrong_head_is_refused() {
 
 #[test]
 fn image_with_a_foreign_bit_is_refused() {
-    let mut own: Vec<u32> = vec![0xFFFF_0000, 0x3F, 0xC3DF, !0, 0xE000, 0x0007_0000, !0, 0xFFFF_F2C1, 0xFFFF_F2C1, 0x3F];
+    let mut own: Vec<u32> =
+        vec![0xFFFF_0000, 0x3F, 0xC3DF, !0, 0xE000, 0x0007_0000, !0, 0xFFFF_F2C1, 0xFFFF_F2C1, 0x3F];
     own.extend([!0; 8]);
     own.extend([0xFFFF_F003, 0xFFFF_F3D4].repeat(56));
     own.extend([0xFFFF_F003, 0xFFFF_F003, 0xFFFF_F003, 0xFFFF_F003, 0x3F].repeat(256));
@@ -1102,7 +1120,9 @@ fn image_with_doubles_is_refused() {
     let restored = |board: &Board| Board::new(16, 0).restore(&board.save());
 
     for (first, second) in [(0, 1), (1, 3), (2, 3)] {
-        for (one, other) in [(EXCLUSIVE, EXCLUSIVE), (MODIFIED, SHARED), (SHARED, INVALID), (INVALID, INVALID)] {
+        for (one, other) in
+            [(EXCLUSIVE, EXCLUSIVE), (MODIFIED, SHARED), (SHARED, INVALID), (INVALID, INVALID)]
+        {
             let mut board = base.clone();
             board.put_line(77, first, 0x5000, one, 0);
             board.put_line(77, second, 0x5000, other, 0);
@@ -1195,8 +1215,9 @@ fn doubles_count_by_the_lowest() {
     assert_eq!(board.snoop(0xB124, 3), Snooped::Clear);
     expect(&board.read(0x00C0_5124), Outcome::Word(3), &[]);
     board.set(UAPR, TE | 0x4000);
-    expect(&board.access(0x00C0_5124, LOCK, 15, 0), Outcome::Word(3), &[
-        transaction("wic", 0xB120, 4),
-        transaction("ilc", 0xB124, 1),
-    ]);
+    expect(
+        &board.access(0x00C0_5124, LOCK, 15, 0),
+        Outcome::Word(3),
+        &[transaction("wic", 0xB120, 4), transaction("ilc", 0xB124, 1)],
+    );
 }

@@ -149,11 +149,7 @@ fn write_hit_with_m_clear_searches_again() {
     assert_eq!(board.peek(0x6014), 0xA000 | U | V);
 
     let answer = board.write(0x00C0_5124, 9);
-    let search = [
-        transaction("", 0x400C, 1),
-        transaction("", 0x6014, 1),
-        transaction("wi", 0x6014, 1),
-    ];
+    let search = [transaction("", 0x400C, 1), transaction("", 0x6014, 1), transaction("wi", 0x6014, 1)];
     expect(&answer, Outcome::Written, &search);
     assert_eq!(board.entry(0), (0x00C0_5001, 0xA000 | M));
     assert_eq!(board.entry(1), (0, 0));

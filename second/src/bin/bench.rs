@@ -56,7 +56,7 @@ fn run(machine: &impl Machine, world: &mut World, trace: &Trace) {
 
 /// Reads of 64 lines in turn, from a logical page on.
 fn reads(base: u32) -> Trace {
-    (0..CALLS as u32).map(|n| [base + (n * 20 & 0x3FC), SUPERVISOR, 15, 0]).collect()
+    (0..CALLS as u32).map(|n| [base + ((n * 20) & 0x3FC), SUPERVISOR, 15, 0]).collect()
 }
 
 /// Maps pages one to one in the last segment but one, descriptors used and
@@ -159,7 +159,9 @@ fn main() {
     trace_line("read hit, unmapped", &board(), &reads(0));
 
     // Write hits: the lines are modified after the first round.
-    let writes = |base| -> Trace { reads(base).into_iter().map(|[at, kind, ..]| [at, kind | WRITE, 15, at]).collect() };
+    let writes = |base| -> Trace {
+        reads(base).into_iter().map(|[at, kind, ..]| [at, kind | WRITE, 15, at]).collect()
+    };
     trace_line("write hit, unmapped", &board(), &writes(0));
     trace_line("write hit, last entry", &world, &writes(MAPPED + (55 << 12)));
 
@@ -174,7 +176,8 @@ fn main() {
     trace_line("mix, twice the cache", &board(), &mix);
 
     // More pages in turn than there are entries; the data hit.
-    let pages: Trace = (0..CALLS as u32).map(|n| [MAPPED + (n % 64 << 12) + 0x40, SUPERVISOR, 15, 0]).collect();
+    let pages: Trace =
+        (0..CALLS as u32).map(|n| [MAPPED + ((n % 64) << 12) + 0x40, SUPERVISOR, 15, 0]).collect();
     let mut world = board();
     map(&mut world);
     for page in 0..1024 {

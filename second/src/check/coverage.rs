@@ -176,20 +176,13 @@ impl Default for Coverage {
 }
 
 /// The numbers with which each call can be refused.
-pub const REFUSALS: [&[usize]; Call::KINDS] = [
-    &[3],
-    &[1, 2, 3, 4, 5],
-    &[1, 3, 4],
-    &[6],
-    &[1, 2, 3, 6],
-    &[3, 11],
-    &[3, 7, 8, 9, 10],
-];
+pub const REFUSALS: [&[usize]; Call::KINDS] =
+    [&[3], &[1, 2, 3, 4, 5], &[1, 3, 4], &[6], &[1, 2, 3, 6], &[3, 11], &[3, 7, 8, 9, 10]];
 
 /// Which rules of its number up to 7, or 11, a call breaks, in rising order.
 pub fn broken_rules(call: &Call) -> Vec<u32> {
-    let ram = |lend: &Lend| lend.ram % 4 != 0 || lend.ram > 4_194_304;
-    let rom = |lend: &Lend| lend.rom % 4 != 0 || lend.rom > 262_144;
+    let ram = |lend: &Lend| !lend.ram.is_multiple_of(4) || lend.ram > 4_194_304;
+    let rom = |lend: &Lend| !lend.rom.is_multiple_of(4) || lend.rom > 262_144;
     let tests: Vec<(u32, bool)> = match call {
         Call::Reset { cells, .. } => vec![(3, *cells != 4096)],
         Call::Access { lend, address, enables, .. } => vec![
@@ -454,7 +447,13 @@ impl Coverage {
 
     /// Notes the translation. Answers the length of the search's list, unless
     /// the translation ended the access.
-    fn translation(&mut self, before: &Before, access: &AccessBefore, given: &Given, after: &World) -> Option<u32> {
+    fn translation(
+        &mut self,
+        before: &Before,
+        access: &AccessBefore,
+        given: &Given,
+        after: &World,
+    ) -> Option<u32> {
         let [outcome, code, _, _, listed, ..] = given.reply;
         let violation = outcome == 3 && code >= SUPERVISOR_VIOLATION;
         let write_violation = violation && code == WRITE_VIOLATION;
@@ -479,7 +478,13 @@ impl Coverage {
         (!violation && (outcome != 3 || listed > 0)).then_some(0)
     }
 
-    fn search(&mut self, before: &Before, access: &AccessBefore, given: &Given, after: &World) -> Option<u32> {
+    fn search(
+        &mut self,
+        before: &Before,
+        access: &AccessBefore,
+        given: &Given,
+        after: &World,
+    ) -> Option<u32> {
         let [outcome, code, _, _, listed, ..] = given.reply;
         let searched = 2 + u32::from(access.update);
         let renewal = access.source == Source::Renewal;
@@ -542,7 +547,9 @@ impl Coverage {
                     _ => ReadHitShared,
                 });
             }
-            Some(_) if failed => self.count(if through { WriteHitThroughFailed } else { WriteHitGlobalFailed }),
+            Some(_) if failed => {
+                self.count(if through { WriteHitThroughFailed } else { WriteHitGlobalFailed })
+            }
             Some(state) => self.count(match (through, global, state) {
                 (true, _, EXCLUSIVE) => WriteHitThroughExclusive,
                 (true, _, MODIFIED) => WriteHitThroughModified,
@@ -590,7 +597,9 @@ impl Coverage {
         let modified = access.hit == Some(MODIFIED);
         let either = |read, written| if write { written } else { read };
         let situation = match access.hit {
-            _ if failed && modified && listed == 1 => either(InhibitedReadCopybackFailed, InhibitedWriteCopybackFailed),
+            _ if failed && modified && listed == 1 => {
+                either(InhibitedReadCopybackFailed, InhibitedWriteCopybackFailed)
+            }
             _ if failed => either(InhibitedReadWordFailed, InhibitedWriteWordFailed),
             None => either(InhibitedReadMiss, InhibitedWriteMiss),
             Some(MODIFIED) => either(InhibitedReadDropsModified, InhibitedWriteDropsModified),

@@ -95,7 +95,7 @@ impl Differ {
         let broken = broken_rules(call);
         let may_be_refused = !broken.is_empty() || matches!(call, Call::Restore { .. });
         let kept = may_be_refused.then(|| world.clone());
-        let cleared = (broken.is_empty() && number % 8 == 0).then(|| without_foreign_bits(world));
+        let cleared = (broken.is_empty() && number.is_multiple_of(8)).then(|| without_foreign_bits(world));
         let before = broken.is_empty().then(|| Before::new(world, call));
         let fault = world.unit.fault;
 
@@ -249,7 +249,10 @@ fn check_access(given: &Given, control: bool, fault: [u32; 2], world: &World) ->
     let used = 3 * listed as usize;
     demand(outcome <= 3, "an unknown outcome")?;
     demand(listed <= 6, "more than six transactions")?;
-    demand(list[used.min(18)..].iter().all(|&word| word == 0) && given.reply[23] == 0, "unused words of the reply")?;
+    demand(
+        list[used.min(18)..].iter().all(|&word| word == 0) && given.reply[23] == 0,
+        "unused words of the reply",
+    )?;
     if control {
         demand(listed == 0, "control space lists a transaction")?;
     } else {
@@ -257,7 +260,10 @@ fn check_access(given: &Given, control: bool, fault: [u32; 2], world: &World) ->
         demand(words <= 12, "more than twelve words")?;
         demand(counts().sum::<u32>() == words, "the word count is not the list's")?;
         let failed = counts().position(|count| count == 0);
-        demand(failed.is_none_or(|place| place as u32 == listed - 1), "a failed transaction is not the last")?;
+        demand(
+            failed.is_none_or(|place| place as u32 == listed - 1),
+            "a failed transaction is not the last",
+        )?;
         demand(failed.is_none() || outcome == 3 && code == 3, "a failed transaction without its fault")?;
         demand(outcome != 0 || words == 0 && listed == 0, "an idle access moves words")?;
     }
@@ -284,7 +290,10 @@ fn check_saved(world: &World, out: usize) -> Result<(), String> {
 fn well_formed(world: &World) -> Result<(), String> {
     let mut image = vec![0; IMAGE];
     let (mut unit, mut cells) = (Unit::default(), vec![0; 4096]);
-    world.unit.save(&world.cells[..4096], &mut image).map_err(|number| format!("saving refused: {number}"))?;
+    world
+        .unit
+        .save(&world.cells[..4096], &mut image)
+        .map_err(|number| format!("saving refused: {number}"))?;
     unit.restore(&mut cells, &image).map_err(|number| format!("not well formed: {number}"))?;
     demand(unit == world.unit && cells == world.cells[..4096], "a state from reset reads back differently")
 }

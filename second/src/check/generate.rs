@@ -27,8 +27,8 @@ pub enum Step {
 
 /// Offsets of the registers.
 const OFFSETS: [u32; 17] = [
-    0x000, 0x004, 0x008, 0x00C, 0x104, 0x108, 0x10C, 0x200, 0x204, 0x400, 0x404, 0x408, 0x40C, 0x410, 0x414, 0x418,
-    0x41C,
+    0x000, 0x004, 0x008, 0x00C, 0x104, 0x108, 0x10C, 0x200, 0x204, 0x400, 0x404, 0x408, 0x40C, 0x410, 0x414,
+    0x418, 0x41C,
 ];
 
 /// The pools from which one sequence draws, small enough that accesses meet.
@@ -219,7 +219,11 @@ impl Generator {
         if line == 4 {
             return self.random.word() & USE_OWN | self.foreign() & !USE_OWN;
         }
-        let page = if self.random.percent(90) { self.random.pick(&self.plan.physical) } else { self.random.word() & PAGE };
+        let page = if self.random.percent(90) {
+            self.random.pick(&self.plan.physical)
+        } else {
+            self.random.word() & PAGE
+        };
         let state = if self.random.percent(85) { self.random.below(3) as u32 } else { 3 };
         page | state | self.foreign() & !TAG_OWN
     }
@@ -313,11 +317,8 @@ impl Generator {
     }
 
     fn control_address(&mut self, world: &World) -> u32 {
-        let number = if self.random.percent(85) {
-            world.unit.regs[IDR] >> 24
-        } else {
-            self.random.word() & 0xFF
-        };
+        let number =
+            if self.random.percent(85) { world.unit.regs[IDR] >> 24 } else { self.random.word() & 0xFF };
         CONTROL_SPACE | number << 12 | self.register_offset()
     }
 
@@ -583,7 +584,8 @@ impl Generator {
 
     /// Lends less memory, still by the rules.
     fn shorten(&mut self, call: &mut Call) {
-        if let Call::Access { lend, .. } | Call::Snoop { lend, .. } | Call::WriteRegister { lend, .. } = call {
+        if let Call::Access { lend, .. } | Call::Snoop { lend, .. } | Call::WriteRegister { lend, .. } = call
+        {
             if self.random.percent(70) {
                 lend.ram = self.random.below(lend.ram / 4 + 1) * 4;
             }
@@ -597,12 +599,13 @@ impl Generator {
     fn spoil(&mut self, call: &mut Call, rate: usize, world: &World) {
         let random = &mut self.random;
         let wrong_cells = [0, 1, 4092, 4095, 4097, 4096 + SPARE];
-        if let Call::Access { lend, .. } | Call::Snoop { lend, .. } | Call::WriteRegister { lend, .. } = call {
+        if let Call::Access { lend, .. } | Call::Snoop { lend, .. } | Call::WriteRegister { lend, .. } = call
+        {
             if random.percent(rate) {
-                lend.ram = random.below(world.ram.len()) & !3 | 1 + random.below(3);
+                lend.ram = random.below(world.ram.len()) & !3 | (1 + random.below(3));
             }
             if random.percent(rate) {
-                lend.rom = random.below(world.rom.len()) & !3 | 1 + random.below(3);
+                lend.rom = random.below(world.rom.len()) & !3 | (1 + random.below(3));
             }
             if random.percent(rate) {
                 lend.cells = random.pick(&wrong_cells);
@@ -625,7 +628,7 @@ impl Generator {
             Call::ReadRegister { offset } | Call::WriteRegister { offset, .. } => {
                 if random.percent(rate) {
                     *offset = match random.below(3) {
-                        0 => *offset | 1 + random.below(3) as u32,
+                        0 => *offset | (1 + random.below(3) as u32),
                         1 => 4096 + *offset,
                         _ => random.word() | 1 << (12 + random.below(20)),
                     };
@@ -671,7 +674,14 @@ impl Plan {
                 n if n >= 2 * outside => random.below(ram_pages as usize) as u32 * 0x1000,
                 n if n >= outside / 2 => 0xFFE0_0000 + random.below(rom_pages as usize) as u32 * 0x1000,
                 n if n % 2 == 0 => ram_pages * 0x1000,
-                _ => random.pick(&[0x00FF_F000, 0x0100_0000, 0x7FFF_F000, 0xFFDF_F000, 0xFFEF_F000, 0xFFF0_0000]),
+                _ => random.pick(&[
+                    0x00FF_F000,
+                    0x0100_0000,
+                    0x7FFF_F000,
+                    0xFFDF_F000,
+                    0xFFEF_F000,
+                    0xFFF0_0000,
+                ]),
             };
             physical.push(page);
         }
