@@ -2,7 +2,8 @@
 //! linked, and always against what must hold of the model.
 //!
 //! DIFFER_SEED sets the first seed, DIFFER_SCALE the number of calls in
-//! percent, DIFFER_OWN_BITS=1 lets bits that do not count differ.
+//! percent. DIFFER_OWN_BITS=1 lets bits that do not count differ, and
+//! DIFFER_TRACE=1 shows each step before it is taken.
 
 use second::check::differ::{Differ, Mix};
 use second::check::generate::{Generator, Start};
@@ -12,12 +13,18 @@ fn setting(name: &str, default: u64) -> u64 {
     std::env::var(name).ok().and_then(|value| value.parse().ok()).unwrap_or(default)
 }
 
+fn differ() -> Differ {
+    let mut differ = Differ::against_proved();
+    differ.own_bits_only = setting("DIFFER_OWN_BITS", 0) != 0;
+    differ.trace = setting("DIFFER_TRACE", 0) != 0;
+    differ
+}
+
 #[test]
 fn sequences() {
     let seed = setting("DIFFER_SEED", 1);
     let scale = setting("DIFFER_SCALE", 100);
-    let mut differ = Differ::against_proved();
-    differ.own_bits_only = setting("DIFFER_OWN_BITS", 0) != 0;
+    let mut differ = differ();
 
     // Start, mix, number of sequences, steps of each.
     let runs = [
@@ -49,7 +56,7 @@ fn largest_memory() {
     let seed = setting("DIFFER_SEED", 1);
     for (ram, rom) in lengths {
         for start in [Start::Reset, Start::MadeUp] {
-            let mut differ = Differ::against_proved();
+            let mut differ = differ();
             let (generator, world) = Generator::with_memory(Random::new(seed), start, ram, rom);
             if let Err((number, what)) = differ.steps(generator, world, (start, Mix::All), 60) {
                 panic!("RAM {ram}, ROM {rom}, seed {seed}, {start:?}, step {number}: {what}");

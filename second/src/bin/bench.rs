@@ -10,7 +10,7 @@ use second::check::world::World;
 use second::IMAGE;
 
 /// Many short rounds, of which the best counts.
-const ROUNDS: usize = 300;
+const ROUNDS: usize = 150;
 const CALLS: usize = 20_000;
 
 const SUPERVISOR: u32 = 0x80;

@@ -28,12 +28,14 @@ pub struct Differ {
     other: Option<Box<dyn Machine>>,
     /// Whether bits that do not count may differ.
     pub own_bits_only: bool,
+    /// Whether each step is shown before it is taken.
+    pub trace: bool,
     pub coverage: Coverage,
 }
 
 impl Differ {
     pub fn new(other: Option<Box<dyn Machine>>) -> Self {
-        Differ { other, own_bits_only: false, coverage: Coverage::default() }
+        Differ { other, own_bits_only: false, trace: false, coverage: Coverage::default() }
     }
 
     /// Against the proved implementation where it is linked.
@@ -67,6 +69,9 @@ impl Differ {
         let mut other = self.other.is_some().then(|| world.clone());
         for number in 0..steps {
             let step = mix.next(&mut generator, &world);
+            if self.trace {
+                eprintln!("step {number}: {step:?}");
+            }
             let at = |what: String| (number, format!("{step:?}\n{what}"));
             match &step {
                 Step::Set(part, index, value) => {
