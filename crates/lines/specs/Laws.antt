@@ -14,7 +14,8 @@ use Rattle.words.specs.Words.{pick, bitsOf}
 use Rattle.words.specs.Laws.{and-left, and-right}
 use Rattle.order.specs.Order.{earliestOf}
 use Rattle.order.specs.Laws.{earliest-small}
-use Rattle.lines.specs.Lines.{setOf, tagOf, tagAt, codeAt, stateOf, valid, modified, matches, tagWord, lowest, hitOf, victimOf, marked, tagged, filledOf, usedAt}
+use Rattle.state.specs.Own.{ownTag, tag-fields}
+use Rattle.lines.specs.Lines.{setOf, tagOf, tagAt, codeAt, stateOf, valid, modified, matches, tagWord, lowest, hitOf, victimOf, withState, marked, tagged, filledOf, usedAt}
 
 -- ---- a store at one place leaves every other place
 
@@ -61,7 +62,7 @@ filled-code ls p q a = marked-code _ p q 2 ∙ getD-set-other ls (tagAt p) (code
 -- ---- what stands at the place itself
 
 module _ (ls : List ℕ) (size : length ls ≡ 1280) (p : ℕ) (small : p < 1024) where
-  pub marked-same : (s : ℕ) → tagWord (marked ls p s) p ≡ tagWord ls p / 4 * 4 + s
+  pub marked-same : (s : ℕ) → tagWord (marked ls p s) p ≡ withState (tagWord ls p) s
   unfolding marked
   marked-same s = getD-set-same ls (tagAt p) _ 0 (omega arith)
 
@@ -74,10 +75,10 @@ module _ (ls : List ℕ) (size : length ls ≡ 1280) (p : ℕ) (small : p < 1024
       (omega arith)
 
 -- setting a state keeps the tag
-pub state-keeps-tag : (w s : ℕ) → s < 4 → tagOf (w / 4 * 4 + s) ≡ tagOf w
+pub state-keeps-tag : (w s : ℕ) → s < 4 → tagOf (withState w s) ≡ tagOf w
 state-keeps-tag w s h = omega arith
 
-pub state-set : (w s : ℕ) → s < 4 → stateOf (w / 4 * 4 + s) ≡ s
+pub state-set : (w s : ℕ) → s < 4 → stateOf (withState w s) ≡ s
 state-set w s h = omega arith
 
 -- ---- the lowest place that passes a test
@@ -225,3 +226,7 @@ module _ (ls : List ℕ) (size : length ls ≡ 1280) (p address : ℕ) (small : 
       | no f ↦ n a b ha hb s (rw (filled-other ls p a address e) at va) (rw (filled-other ls p b address f) at vb) (rw (filled-other ls p a address e, filled-other ls p b address f) at t)
     ]
   ]
+
+-- a tag word in a state has only own bits
+pub state-own : (w s : ℕ) → s < 4 → ownTag (withState w s) ≡ withState w s
+state-own w s h = tag-fields (tagOf w) s (omega arith) h

@@ -64,9 +64,13 @@ unfoldable pub victimOf : List ℕ → ℕ → ℕ
 victimOf ls address =
     lowest ls (λ w. not (valid w)) (setOf address * 4) (setOf address * 4 + earliestOf (bitsOf (getD ls (codeAt (setOf address * 4)) 0) 5 0))
 
+-- a tag word in another state: the tag stays
+abbrev pub withState : ℕ → ℕ → ℕ
+withState w state = tagOf w * 4096 + state
+
 -- the directory with a line in another state, with another tag, filled, and with its use recorded
 unfoldable pub marked : List ℕ → ℕ → ℕ → List ℕ
-marked ls p state = set ls (tagAt p) (tagWord ls p / 4 * 4 + state)
+marked ls p state = set ls (tagAt p) (withState (tagWord ls p) state)
 
 unfoldable pub tagged : List ℕ → ℕ → ℕ → List ℕ
 tagged ls p address = set ls (tagAt p) (tagOf address * 4096 + stateOf (tagWord ls p))

@@ -1,9 +1,9 @@
 // The cache: its directory of 256 sets of 4 lines, and the words of its lines.
 // A place is 4 x set + number, 0 to 1023; the four words of place p stand at 4p in `cells`.
 ghost use mathlib.Core.Path.{_≡_};
-ghost use Prim.Native.Nat.{_+_, _*_, _/_, _<_, _≤_};
+ghost use Prim.Native.Nat.{_*_, _<_, _≤_};
 ghost use lib.ListN.{length};
-ghost use Rattle.lines.specs.Lines.{setOf, tagOf, cellOf, tagAt, codeAt, tagWord, stateOf, valid, modified, matches, lineAddress, hitOf, victimOf, marked, tagged, filledOf, usedAt, cellAt, wordAt, mergedAt, lineWords};
+ghost use Rattle.lines.specs.Lines.{setOf, tagOf, cellOf, tagAt, codeAt, tagWord, stateOf, valid, modified, matches, lineAddress, hitOf, victimOf, withState, marked, tagged, filledOf, usedAt, cellAt, wordAt, mergedAt, lineWords};
 ghost use Rattle.memory.specs.Memory.{putOf};
 use order::UseOrder;
 
@@ -128,9 +128,9 @@ pub fn victim(lines: &[u32; 1280], address: u32) -> usize
 
 fn with_state(word: u32, state: u32) -> u32
     requires { ⌜ state < 4 ⌝ }
-    ensures { λ r. ⌜ r ≡ word / 4 * 4 + state ⌝ }
+    ensures { λ r. ⌜ r ≡ withState word state ⌝ }
 {
-    word / 4 * 4 + state
+    tag_of(word) * 4096 + state
 }
 
 // Sets the state of one line, and nothing else of it: the only place where a line's state changes.

@@ -274,17 +274,14 @@ renew-alone ps size address s frame h alone = put-alone ps size (entryOf ps addr
             let g = hit-fields (pageWord ps m) address s e in
             absurd (ne (alone (entryOf ps address s) m h hm (f .0) (g .0) (f .1 ∙ sym (g .1)) (f .2 ∙ sym (g .2))))
 
--- clearing V keeps it
-pub kept-alone : (ps qs : List ℕ) → ((n : ℕ) → n < 56 → (pageWord qs n ≡ pageWord ps n) ⊎ (pageWord qs n ≡ pageWord ps n / 2 * 2)) → NoTwins ps → NoTwins qs
+-- so does whatever leaves each page word as it was or not valid
+pub kept-alone : (ps qs : List ℕ) → ((n : ℕ) → n < 56 → (pageWord qs n ≡ pageWord ps n) ⊎ (bitOf (pageWord qs n) 0 ≡ false)) → NoTwins ps → NoTwins qs
 unfolding NoTwins
 kept-alone ps qs kept alone n m hn hm vn vm p t = go (kept n hn) (kept m hm)
   where
-    cleared-not : (w : ℕ) → bitOf (w / 2 * 2) 0 ≡ true → ⊥
-    cleared-not w e = let h : w / 2 * 2 / 1 % 2 ≡ 1 = eqb-true _ _ e in omega arith
-
-    go : (pageWord qs n ≡ pageWord ps n) ⊎ (pageWord qs n ≡ pageWord ps n / 2 * 2) → (pageWord qs m ≡ pageWord ps m) ⊎ (pageWord qs m ≡ pageWord ps m / 2 * 2) → n ≡ m
-    go (inr e) f = absurd (cleared-not (pageWord ps n) (rw e at vn))
-    go (inl e) (inr f) = absurd (cleared-not (pageWord ps m) (rw f at vm))
+    go : (pageWord qs n ≡ pageWord ps n) ⊎ (bitOf (pageWord qs n) 0 ≡ false) → (pageWord qs m ≡ pageWord ps m) ⊎ (bitOf (pageWord qs m) 0 ≡ false) → n ≡ m
+    go (inr e) f = absurd (true≢false (sym vn ∙ e))
+    go (inl e) (inr f) = absurd (true≢false (sym vm ∙ f))
     go (inl e) (inl f) = alone n m hn hm (rw e at vn) (rw f at vm) (rw (e, f) at p) (rw (e, f) at t)
 
 -- ---- an entry's words have only own bits

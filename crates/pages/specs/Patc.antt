@@ -6,7 +6,7 @@ use lib.ListN.{getD, set}
 use lib.Dec.{eqb, ltb}
 use Rattle.words.specs.Words.{pick, bitsOf, bitOf}
 use Rattle.state.specs.Own.{ownTag, ownPointer}
-use Rattle.pages.specs.Pages.{same}
+use Rattle.pages.specs.Pages.{same, flagOf}
 use Rattle.pages.specs.declared.patc.Range.{Range}
 use Rattle.pages.specs.declared.patc.Range.the-variants.{Page, Segment, All}
 
@@ -76,7 +76,7 @@ named All w address = true
 
 -- .. have V cleared, in one space
 unfoldable pub clearedWord : Range → Bool → ℕ → ℕ → ℕ
-clearedWord range s address w = pick (same (bitOf w 1) s && named range w address) (w / 2 * 2) w
+clearedWord range s address w = pick (bitOf w 0 && same (bitOf w 1) s && named range w address) (bitsOf w 31 12 * 4096 + flagOf s 2) w
 
 -- the first n entries cleared so
 unfoldable pub clearedTo : Range → Bool → ℕ → List ℕ → ℕ → List ℕ

@@ -103,8 +103,8 @@ fn named(range: Range, w: u32, address: u32) -> bool
 fn cleared(range: Range, supervisor: bool, address: u32, w: u32) -> u32
     ensures { λ r. ⌜ r ≡ clearedWord range supervisor address w ⌝ }
 {
-    if (words::bit(w, 1) == supervisor) & named(range, w, address) {
-        return w / 2 * 2;
+    if words::bit(w, 0) & (words::bit(w, 1) == supervisor) & named(range, w, address) {
+        return words::bits(w, 31, 12) * 4096 + crate::tables::flag(supervisor, 2);
     }
     w
 }

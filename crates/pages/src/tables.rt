@@ -68,7 +68,8 @@ pub fn renewed(t: Translation, write: bool) -> Translation
     }
 }
 
-fn flag(set: bool, weight: u32) -> u32
+// A flag's weight where it is set.
+pub fn flag(set: bool, weight: u32) -> u32
     ensures { λ r. ⌜ (r ≡ flagOf set weight) × (r ≤ weight) ⌝ }
 {
     if set { weight } else { 0 }
