@@ -7,7 +7,7 @@ ghost use Rattle.memory.specs.Memory.{ramRule, romRule, ramPlace, ramLin
 // What a transaction moved: did it end well, the words to list, and else where it failed.
 pub struct Moved {
     pub ok: bool,
-    pub words: u32,
+    pub words: u8,
     pub failing: u32,
 }
 
@@ -31,7 +31,7 @@ pub fn rom_rule(len: usize) -> bool
     (len % 4 == 0) & (len <= 262144)
 }
 
-fn done(words: u32) -> Moved
+fn done(words: u8) -> Moved
     ensures { λ r. ⌜ r ≡ movedOf words ⌝ }
 {
     Moved {

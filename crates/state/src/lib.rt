@@ -53,7 +53,7 @@ pub enum Outcome {
 pub struct Transaction {
     pub write: bool,
     pub address: u32,
-    pub words: u32,
+    pub words: u8,
     pub g: bool,
     pub im: bool,
     pub lk: bool,

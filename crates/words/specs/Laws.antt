@@ -1,7 +1,7 @@
 -- Laws of a word's bytes.
 use Prim.Native.Nat.{ℕ, _+_, _-_, _*_, _/_, _%_, _^_, _<_, _≤_}
 use mathlib.Core.Path.{_≡_, refl, sym, ap, _∙_}
-use mathlib.Core.Bool.{Bool, true, false, _&&_}
+use mathlib.Core.Bool.{Bool, true, false, _&&_, _||_}
 use native.Mathlib.Omega.{arith}
 use lib.Pow.{shr-shr}
 use Rattle.words.specs.Words.{pick, bitsOf, bitOf, byteOf, laneOf, joinOf, mergeOf}
@@ -20,6 +20,16 @@ pub and-right : (a b : Bool) → (a && b) ≡ true → b ≡ true
 and-right true b e = e
 and-right false true e = refl
 and-right false false e = e
+
+-- neither part of a test that one part would pass
+pub or-left : (a b : Bool) → (a || b) ≡ false → a ≡ false
+or-left true b e = e
+or-left false b e = refl
+
+pub or-right : (a b : Bool) → (a || b) ≡ false → b ≡ false
+or-right true true e = e
+or-right true false e = refl
+or-right false b e = e
 
 digits : (w a b c : ℕ) → a ≡ w / 256 → b ≡ a / 256 → c ≡ b / 256 → c < 256 → joinOf (c % 256) (b % 256) (a % 256) (w % 256) ≡ w
 digits w a b c ha hb hc small = omega arith

@@ -1,0 +1,11 @@
+use Rattle.flight.proofs.course.with_descriptor.Statement.{statement}
+use Rattle.flight.specs.Course.{withDescriptor}
+use mathlib.Core.Path.{refl}
+use Rattle.flight.proofs.course.with_descriptor.Tie as tie
+
+returns : tie.Need-returns
+unfolding withDescriptor
+returns c = (refl, refl)
+
+pub with-descriptor-spec : {M : Type 1} → statement M
+with-descriptor-spec = tie.close (tie.spec returns)

@@ -1,0 +1,11 @@
+use Rattle.flight.proofs.course.with_translation.Statement.{statement}
+use Rattle.flight.specs.Course.{withTranslation}
+use mathlib.Core.Path.{refl}
+use Rattle.flight.proofs.course.with_translation.Tie as tie
+
+returns : tie.Need-returns
+unfolding withTranslation
+returns c = (refl, refl)
+
+pub with-translation-spec : {M : Type 1} → statement M
+with-translation-spec = tie.close (tie.spec returns)

@@ -1,0 +1,3 @@
+// One access as a flight of M bus transactions.
+pub mod cache;
+pub mod course;
