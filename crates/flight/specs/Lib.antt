@@ -1,2 +1,4 @@
 pub mod Course
 pub mod Cache
+pub mod Search
+pub mod Begin
