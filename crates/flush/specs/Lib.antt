@@ -1,0 +1,3 @@
+pub mod Flush
+pub mod Snoop
+pub mod Laws
