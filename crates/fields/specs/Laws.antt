@@ -56,6 +56,11 @@ sets-append [] ys l i k e =
     rw e′
 sets-append (x ∷ xs) ys l i k e = sets-append xs ys (set l i x) (suc i) k (omega (arith, e))
 
+-- a head, and the content after it
+pub field-run : (l : List ℕ) (p tag n : ℕ) (content : List ℕ) → length content ≡ n → sets (sets l p (headOf tag n)) (p + 3) content ≡ sets l p (fieldOf tag content)
+unfolding fieldOf
+field-run l p tag n content e = rw (← e) (sets-append (headOf tag (length content)) content l p (p + 3) refl)
+
 -- a run from the start on, and what stands past it
 pub sets-front : (xs l : List ℕ) → length xs ≤ length l → sets l 0 xs ≡ xs ++ drop (length xs) l
 sets-front xs l h = let e : 0 + length xs ≡ length xs = omega arith in sets-eq xs l 0 (omega arith) ∙ rw e

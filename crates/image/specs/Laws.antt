@@ -1,0 +1,127 @@
+-- Laws of own words, of the tests and of the image: what is written reads back, and what reads is what would be written.
+use Prim.Native.Nat.{ℕ, zero, suc, _+_, _-_, _*_, _/_, _%_, _^_, _<_, _≤_}
+use mathlib.Core.Path.{_≡_, refl, sym, ap, _∙_}
+use mathlib.Core.Bool.{Bool, true, false, not, _&&_}
+use mathlib.Core.List.{List, [], _∷_, _++_, append-nil}
+use native.Mathlib.Omega.{arith}
+use borrow.Author.Tests.{lt-ltb, le-ltb}
+use lib.ListN.{length, length-append, take, drop, getD, set, drop-of-length-le}
+use lib.Seq.{sets, drop-cons}
+use Rattle.fields.specs.Fields.{wordBytes, bytesOf, wordAt, wordsAt, fieldOf, rowOf}
+use Rattle.fields.specs.Laws.{length-bytes, length-field, sets-append, sets-front}
+use Rattle.image.specs.declared.Layout.{Layout}
+use Rattle.image.specs.declared.Layout.the-variants.{Whole, Entries, Sets}
+use Rattle.image.specs.Chip.{Chip, Sized, ownWord, ownFrom, ownWords, ownRegisters, ownPair, ownOf}
+use Rattle.image.specs.Image.{registerWords, fieldsOf, imageOf, saved, saveOf}
+
+-- ---- own words
+
+pub length-own : (layout : Layout) (i : ℕ) (ws : List ℕ) → length (ownFrom layout i ws) ≡ length ws
+unfolding ownFrom
+length-own layout i [] = refl
+length-own layout i (w ∷ ws) = ap suc (length-own layout (suc i) ws)
+
+-- .. as bytes
+pub length-own-bytes : (layout : Layout) (ws : List ℕ) → length (bytesOf (ownWords layout ws)) ≡ length ws * 4
+length-own-bytes layout ws = length-bytes (ownWords layout ws) ∙ rw (length-own layout 0 ws)
+
+-- of whole words every bit is own
+pub own-whole : (i : ℕ) (ws : List ℕ) → ownFrom Whole i ws ≡ ws
+unfolding ownFrom ownWord
+own-whole i [] = refl
+own-whole i (w ∷ ws) = ap (λ (l : List ℕ). w ∷ l) (own-whole (suc i) ws)
+
+pub own-sized : (c : Chip) → Sized c → Sized (ownOf c)
+unfolding ownRegisters
+own-sized c size = record {
+  ports = size .ports;
+  patc = length-own Entries 0 (c .patc) ∙ size .patc;
+  lines = length-own Sets 0 (c .lines) ∙ size .lines;
+  cells = size .cells;
+}
+
+-- ---- words stored one by one: at first none, then one more, at last all
+
+pub put-none : (layout : Layout) (src out : List ℕ) (at : ℕ) → sets out (at + 0 * 4) (bytesOf (ownFrom layout 0 (drop 0 src))) ≡ sets out at (bytesOf (ownFrom layout 0 src))
+put-none layout src out at = let e : at + 0 * 4 ≡ at = omega arith in rw e
+
+pub put-one : (layout : Layout) (src out : List ℕ) (at i : ℕ) → i < length src
+    → sets (sets out (at + i * 4) (wordBytes (ownWord layout i (getD src i 0)))) (at + (i + 1) * 4) (bytesOf (ownFrom layout (i + 1) (drop (i + 1) src)))
+    ≡ sets out (at + i * 4) (bytesOf (ownFrom layout i (drop i src)))
+unfolding bytesOf ownFrom
+put-one layout src out at i h =
+    let e : at + (i + 1) * 4 ≡ suc (suc (suc (suc (at + i * 4)))) = omega arith in
+    let s : i + 1 ≡ suc i = omega arith in
+    rw (e, s, drop-cons src i 0 h)
+
+pub put-all : (layout : Layout) (src out : List ℕ) (at i : ℕ) → length src ≤ i → sets out (at + i * 4) (bytesOf (ownFrom layout i (drop i src))) ≡ out
+unfolding bytesOf ownFrom
+put-all layout src out at i h = rw (drop-of-length-le src {i = i} h)
+
+-- ---- the row of fields
+
+length-words-field : (tag : ℕ) (ws : List ℕ) (n : ℕ) → length ws ≡ n → length (fieldOf tag (bytesOf ws)) ≡ 3 + n * 4
+length-words-field tag ws n e = length-field tag (bytesOf ws) ∙ ap (λ (k : ℕ). 3 + k) (length-bytes ws ∙ rw e)
+
+module _ (c : Chip) (size : Sized c) where
+  at1 : length (fieldOf 1 (bytesOf (registerWords (c .registers) (c .pair)))) ≡ 43
+  at1 = length-words-field 1 _ 10 refl
+
+  at2 : length (fieldOf 2 (bytesOf (c .registers .ports))) ≡ 35
+  at2 = length-words-field 2 _ 8 (size .ports)
+
+  at3 : length (fieldOf 3 (bytesOf (c .patc))) ≡ 451
+  at3 = length-words-field 3 _ 112 (size .patc)
+
+  at4 : length (fieldOf 4 (bytesOf (c .lines))) ≡ 5123
+  at4 = length-words-field 4 _ 1280 (size .lines)
+
+  at5 : length (fieldOf 5 (bytesOf (c .cells))) ≡ 16387
+  at5 = length-words-field 5 _ 4096 (size .cells)
+
+  pub length-row : length (rowOf (fieldsOf c)) ≡ 22039
+  unfolding rowOf
+  length-row = simp length-append (omega (arith, at1, at2, at3, at4, at5))
+
+  -- the five fields stored one after the other
+  pub row-run : (o o1 o2 o3 o4 o5 : List ℕ) → 22039 ≤ length o
+      → o1 ≡ sets o 0 (fieldOf 1 (bytesOf (registerWords (c .registers) (c .pair))))
+      → o2 ≡ sets o1 43 (fieldOf 2 (bytesOf (c .registers .ports)))
+      → o3 ≡ sets o2 78 (fieldOf 3 (bytesOf (c .patc)))
+      → o4 ≡ sets o3 529 (fieldOf 4 (bytesOf (c .lines)))
+      → o5 ≡ sets o4 5652 (fieldOf 5 (bytesOf (c .cells)))
+      → o5 ≡ rowOf (fieldsOf c) ++ drop 22039 o
+  unfolding rowOf
+  row-run o o1 o2 o3 o4 o5 room e1 e2 e3 e4 e5 =
+      let f1 = fieldOf 1 (bytesOf (registerWords (c .registers) (c .pair))) in
+      let f2 = fieldOf 2 (bytesOf (c .registers .ports)) in
+      let f3 = fieldOf 3 (bytesOf (c .patc)) in
+      let f4 = fieldOf 4 (bytesOf (c .lines)) in
+      let f5 = fieldOf 5 (bytesOf (c .cells)) in
+      let whole : sets o 0 (rowOf (fieldsOf c)) ≡ rowOf (fieldsOf c) ++ drop 22039 o = sets-front (rowOf (fieldsOf c)) o (omega (arith, length-row)) ∙ rw length-row in
+      rw (e5, e4, e3, e2, e1)
+      (ap (sets _ 5652) (sym (append-nil f5))
+      ∙ sets-append f4 (f5 ++ []) _ 529 5652 (omega (arith, at4))
+      ∙ sets-append f3 (f4 ++ (f5 ++ [])) _ 78 529 (omega (arith, at3))
+      ∙ sets-append f2 (f3 ++ (f4 ++ (f5 ++ []))) _ 43 78 (omega (arith, at2))
+      ∙ sets-append f1 (f2 ++ (f3 ++ (f4 ++ (f5 ++ [])))) o 0 43 (omega (arith, at1))
+      ∙ whole)
+
+-- what saving answers: no room, or the image before what stood past it
+module _ (c : Chip) where
+  pub save-refused : (o : List ℕ) → length o < 22039 → saved 11 o ≡ saveOf c o
+  unfolding saveOf
+  save-refused o h = rw (lt-ltb (length o) 22039 h)
+
+  pub save-done : Sized c → (o o1 o2 o3 o4 o5 regs : List ℕ) → 22039 ≤ length o
+      → regs ≡ registerWords (ownRegisters (c .registers)) (ownPair (c .pair))
+      → o1 ≡ sets o 0 (fieldOf 1 (bytesOf (ownWords Whole regs)))
+      → o2 ≡ sets o1 43 (fieldOf 2 (bytesOf (ownWords Whole (c .registers .ports))))
+      → o3 ≡ sets o2 78 (fieldOf 3 (bytesOf (ownWords Entries (c .patc))))
+      → o4 ≡ sets o3 529 (fieldOf 4 (bytesOf (ownWords Sets (c .lines))))
+      → o5 ≡ sets o4 5652 (fieldOf 5 (bytesOf (ownWords Whole (c .cells))))
+      → saved 0 o5 ≡ saveOf c o
+  unfolding saveOf imageOf ownRegisters
+  save-done size o o1 o2 o3 o4 o5 regs room e e1 e2 e3 e4 e5 =
+      rw (le-ltb (length o) 22039 room)
+      (ap (saved 0) (row-run (ownOf c) (own-sized c size) o o1 o2 o3 o4 o5 room (rw (own-whole 0 regs, e) at e1) (rw own-whole at e2) e3 e4 (rw own-whole at e5)))
