@@ -14,10 +14,15 @@ unfoldable pub bytesOf : List ℕ → List ℕ
 bytesOf [] = []
 bytesOf (w ∷ ws) = wordBytes w ++ bytesOf ws
 
--- the word whose first byte is at p, and the n words from p on
+-- the word whose first byte is at p
 abbrev pub wordAt : List ℕ → ℕ → ℕ
 wordAt b p = joinOf (getD b p 0) (getD b (p + 1) 0) (getD b (p + 2) 0) (getD b (p + 3) 0)
 
+-- word i of those that stand every `step` bytes from p on
+abbrev pub wordFrom : List ℕ → ℕ → ℕ → ℕ → ℕ
+wordFrom b p step i = wordAt b (p + i * step)
+
+-- the n words from p on
 unfoldable pub wordsAt : List ℕ → ℕ → ℕ → List ℕ
 wordsAt b p zero = []
 wordsAt b p (suc n) = wordAt b p ∷ wordsAt b (p + 4) n

@@ -4,15 +4,21 @@ use mathlib.Core.Path.{_≡_, refl, sym, ap, _∙_}
 use mathlib.Core.Bool.{Bool, true, false, not, _&&_}
 use mathlib.Core.List.{List, [], _∷_, _++_, append-nil}
 use native.Mathlib.Omega.{arith}
-use borrow.Author.Tests.{lt-ltb, le-ltb}
+use borrow.Author.Tests.{lt-ltb, le-ltb, eq-eqb, ne-eqb, eqb-true}
+use lib.Dec.{eqb}
+use Rattle.words.specs.Words.{pick}
 use lib.ListN.{length, length-append, take, drop, getD, set, drop-of-length-le}
 use lib.Seq.{sets, drop-cons}
-use Rattle.fields.specs.Fields.{wordBytes, bytesOf, wordAt, wordsAt, fieldOf, rowOf}
-use Rattle.fields.specs.Laws.{length-bytes, length-field, sets-append, sets-front}
+use Rattle.fields.specs.Fields.{wordBytes, bytesOf, wordAt, wordFrom, wordsAt, fieldOf, rowOf}
+use Rattle.fields.specs.Laws.{length-bytes, length-field, sets-append, sets-front, words-at}
 use Rattle.image.specs.declared.Layout.{Layout}
 use Rattle.image.specs.declared.Layout.the-variants.{Whole, Entries, Sets}
+use Rattle.image.specs.declared.Kind.{Kind}
+use Rattle.image.specs.declared.Kind.the-variants.{Line, Entry}
+use Rattle.image.specs.Below.{below-same}
+use Rattle.image.specs.Verdict.{nth, allOwn, allOrders, apart, setsApart, headsOf, bitsRight, noDoubles, verdictOf, loadedWith, restoreOf}
 use Rattle.image.specs.Chip.{Chip, Sized, ownWord, ownFrom, ownWords, ownRegisters, ownPair, ownOf}
-use Rattle.image.specs.Image.{registerWords, fieldsOf, imageOf, saved, saveOf}
+use Rattle.image.specs.Image.{registerWords, fieldsOf, imageOf, readOf, saved, saveOf}
 
 -- ---- own words
 
@@ -125,3 +131,57 @@ module _ (c : Chip) where
   save-done size o o1 o2 o3 o4 o5 regs room e e1 e2 e3 e4 e5 =
       rw (le-ltb (length o) 22039 room)
       (ap (saved 0) (row-run (ownOf c) (own-sized c size) o o1 o2 o3 o4 o5 room (rw (own-whole 0 regs, e) at e1) (rw own-whole at e2) e3 e4 (rw own-whole at e5)))
+
+-- ---- tests of the words of an image, and of the bytes where they stand
+
+pub apart-same : (kind : Kind) (n : ℕ) (f g : ℕ → ℕ) → ((k : ℕ) → k < n → f k ≡ g k) → apart kind n f ≡ apart kind n g
+apart-same kind n f g e =
+    below-same n _ _ (λ j h. below-same j _ _ (λ i l. rw (e i (omega arith), e j h)))
+
+module _ (b : List ℕ) (p : ℕ) where
+  pub own-bytes : (layout : Layout) (n : ℕ) → allOwn layout n (nth (wordsAt b p n)) ≡ allOwn layout n (wordFrom b p 4)
+  own-bytes layout n = below-same n _ _ (λ i h. rw (words-at b p n i h))
+
+  pub order-bytes : (n : ℕ) → allOrders n (nth (wordsAt b p (n * 5))) ≡ allOrders n (wordFrom b p 4)
+  order-bytes n = below-same n _ _ (λ s h. rw (words-at b p (n * 5) (s * 5 + 4) (omega arith)))
+
+  pub sets-bytes : (n : ℕ) → setsApart n (nth (wordsAt b p (n * 5))) ≡ setsApart n (wordFrom b p 4)
+  sets-bytes n = below-same n _ _ (λ s h. apart-same Line 4 _ _ (λ i l. words-at b p (n * 5) (s * 5 + i) (omega arith)))
+
+  pub entry-bytes : (n : ℕ) → apart Entry n (λ i. nth (wordsAt b p (n * 2)) (i * 2)) ≡ apart Entry n (wordFrom b p 8)
+  entry-bytes n = apart-same Entry n _ _ (λ i h. words-at b p (n * 2) (i * 2) (omega arith) ∙ ap (wordAt b) (omega arith))
+
+-- ---- the verdict
+
+pick-zero : (x : Bool) (a n : ℕ) → pick x a (suc n) ≡ 0 → (x ≡ true) × (a ≡ 0)
+pick-zero true a n e = (refl, e)
+pick-zero false a n e = absurd (omega arith)
+
+-- an image that is taken passes each test
+pub record Passes (b : List ℕ) : Type 0 where
+  pub long : length b ≡ 22039
+  pub heads : headsOf b ≡ true
+  pub right : bitsRight (readOf b) ≡ true
+  pub single : noDoubles (readOf b) ≡ true
+
+pub taken-passes : (b : List ℕ) → verdictOf b ≡ 0 → Passes b
+unfolding verdictOf
+taken-passes b v =
+    let v7 = pick-zero (eqb (length b) 22039) _ 6 v in
+    let v8 = pick-zero (headsOf b) _ 7 (v7 .1) in
+    let v9 = pick-zero (bitsRight (readOf b)) _ 8 (v8 .1) in
+    let v10 = pick-zero (noDoubles (readOf b)) _ 9 (v9 .1) in
+    record { long = eqb-true _ _ (v7 .0); heads = v8 .0; right = v9 .0; single = v10 .0 }
+
+pub passes-taken : (b : List ℕ) → Passes b → verdictOf b ≡ 0
+unfolding verdictOf
+passes-taken b p = rw (eq-eqb _ _ (p .long), p .heads, p .right, p .single)
+
+-- what restoring answers: the number, and all as it was; or the unit that the image holds
+pub restore-refused : (b : List ℕ) (c : Chip) (n : ℕ) → n ≡ verdictOf b → (n ≡ 0 → ⊥) → loadedWith n c ≡ restoreOf b c
+unfolding restoreOf
+restore-refused b c n e h = rw (← e, ne-eqb n 0 h)
+
+pub restore-done : (b : List ℕ) (c : Chip) → verdictOf b ≡ 0 → loadedWith 0 (readOf b) ≡ restoreOf b c
+unfolding restoreOf
+restore-done b c e = rw e

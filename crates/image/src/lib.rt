@@ -1,4 +1,5 @@
 // The saved image of a unit, edition 1: writing it, testing it, reading it.
+mod read;
 mod verdict;
 mod write;
 
@@ -6,7 +7,8 @@ ghost use mathlib.Core.Path.{_≡_};
 ghost use Prim.Native.Nat.{_≤_};
 ghost use lib.ListN.{length};
 ghost use Rattle.image.specs.Chip.{chip};
-ghost use Rattle.image.specs.Image.{registersAt, pairAt, saved, saveOf};
+ghost use Rattle.image.specs.Image.{saved, saveOf};
+ghost use Rattle.image.specs.Verdict.{loaded, restoreOf};
 use state::FaultPair;
 use state::Registers;
 
@@ -58,4 +60,36 @@ pub fn save(
     write::field(4, Layout::Sets, lines, out, 529);
     write::field(5, Layout::Whole, cells, out, 5652);
     0
+}
+
+// Reads an image into a unit: 0, or the number of the test that it fails, and then nothing changes.
+pub fn restore(
+    src: &[u8],
+    u: Registers,
+    pair: FaultPair,
+    patc: &mut [u32; 112],
+    lines: &mut [u32; 1280],
+    cells: &mut [u32],
+) -> Restored
+    requires { ⌜ length (now cells) ≡ 4096 ⌝ }
+    ensures { λ r. ⌜ loaded r (now (patc .exit)) (now (lines .exit)) (now (cells .exit)) ≡ restoreOf (now (src .entry)) (chip u pair (now (patc .entry)) (now (lines .entry)) (now (cells .entry))) ⌝ }
+{
+    let number = verdict::verdict(src);
+    if number != 0 {
+        return Restored {
+            number,
+            registers: u,
+            pair,
+        };
+    }
+    let registers = read::registers_at(src);
+    let pair = read::pair_at(src);
+    fields::get_words(src, 81, patc);
+    fields::get_words(src, 532, lines);
+    fields::get_words(src, 5655, cells);
+    Restored {
+        number: 0,
+        registers,
+        pair,
+    }
 }
