@@ -9,8 +9,8 @@ use lib.Dec.{eqb}
 use lib.ListN.{length, take, drop, getD, set, take-append-drop}
 use lib.Seq.{sets, drop-cons, sets-eq, take-all, take-suc-set, append-snoc, drop-drop, drop-at, take-add, getD-drop}
 use Rattle.words.specs.Words.{byteOf, joinOf}
-use Rattle.words.specs.Laws.{join-bytes, byte-joins}
-use Rattle.fields.specs.Fields.{wordBytes, bytesOf, wordAt, wordsAt, headOf, fieldOf, countAt, headAt, Bytes, Words}
+use Rattle.words.specs.Laws.{join-bytes, byte-joins, join-small}
+use Rattle.fields.specs.Fields.{wordBytes, bytesOf, wordAt, wordsAt, headOf, fieldOf, rowOf, countAt, headAt, Bytes, Words}
 
 -- where two tests hold, each does
 pub both : (x y : Bool) → (x && y) ≡ true → (x ≡ true) × (y ≡ true)
@@ -120,20 +120,24 @@ words-back (w ∷ ws) b p rest small e =
     let first : wordAt b p ≡ w = rw (byte-at b p _ 0 p e (omega arith), byte-at b p _ 1 (p + 1) e refl, byte-at b p _ 2 (p + 2) e refl, byte-at b p _ 3 (p + 3) e refl) (join-bytes w (small 0)) in
     rw (first, words-back ws b (p + 4) rest (λ i. small (suc i)) (next b p (wordBytes w) (bytesOf ws ++ rest) 4 e refl))
 
--- a field: its head stands there, and its content after it
-module _ (b : List ℕ) (p tag : ℕ) (content rest : List ℕ) (stands : drop p b ≡ fieldOf tag content ++ rest) where
-  pub field-head : headAt b p tag (length content) ≡ true
-  unfolding fieldOf
-  field-head =
-      rw (byte-at b p _ 0 p stands (omega arith), byte-at b p _ 1 (p + 1) stands refl, byte-at b p _ 2 (p + 2) stands refl, eq-eqb tag tag refl)
-      (eq-eqb (length content / 256 * 256 + length content % 256) (length content) (omega arith))
+-- a row of fields, the first of them of n words: its head stands there, its words after that, and then the rest of the row
+module _ (b : List ℕ) (p tag : ℕ) (ws : List ℕ) (rest : List (List ℕ)) (n : ℕ) (size : length ws ≡ n) (stands : drop p b ≡ rowOf (fieldOf tag (bytesOf ws) ∷ rest)) where
+  long : length (bytesOf ws) ≡ n * 4
+  long = length-bytes ws ∙ rw size
 
-  pub field-content : drop (p + 3) b ≡ content ++ rest
-  unfolding fieldOf
-  field-content = next b p (headOf tag (length content)) (content ++ rest) 3 stands refl
+  pub row-head : headAt b p tag (n * 4) ≡ true
+  unfolding fieldOf rowOf
+  row-head =
+      rw (byte-at b p _ 0 p stands (omega arith), byte-at b p _ 1 (p + 1) stands refl, byte-at b p _ 2 (p + 2) stands refl, eq-eqb tag tag refl, long)
+      (eq-eqb (n * 4 / 256 * 256 + n * 4 % 256) (n * 4) (omega arith))
 
-  pub field-next : (n : ℕ) → length content ≡ n → drop (p + (3 + n)) b ≡ rest
-  field-next n e = next b p (fieldOf tag content) rest (3 + n) stands (length-field tag content ∙ rw e)
+  pub row-words : Words ws → wordsAt b (p + 3) n ≡ ws
+  unfolding fieldOf rowOf
+  row-words small = rw (← size) (words-back ws b (p + 3) (rowOf rest) small (next b p (headOf tag (length (bytesOf ws))) (bytesOf ws ++ rowOf rest) 3 stands refl))
+
+  pub row-next : drop (p + (3 + n * 4)) b ≡ rowOf rest
+  unfolding rowOf
+  row-next = next b p (fieldOf tag (bytesOf ws)) (rowOf rest) (3 + n * 4) stands (length-field tag (bytesOf ws) ∙ rw long)
 
 -- ---- bytes that are read and written back
 
@@ -176,3 +180,13 @@ field-back b small p tag n room head =
         let e2 : p + 2 ≡ suc (suc p) = omega arith in
         let e3 : p + 3 ≡ suc (suc (suc p)) = omega arith in
         rw (e1, e2, e3, drop-cons b p 0 (omega arith), drop-cons b (suc p) 0 (omega arith), drop-cons b (suc (suc p)) 0 (omega arith))
+
+-- words that are read are words
+pub word-small : (b : List ℕ) → Bytes b → (p : ℕ) → wordAt b p < 2 ^ 32
+word-small b small p = join-small _ _ _ _ (small p) (small (p + 1)) (small (p + 2)) (small (p + 3))
+
+pub words-small : (b : List ℕ) → Bytes b → (n p : ℕ) → Words (wordsAt b p n)
+unfolding wordsAt
+words-small b small zero p i = omega arith
+words-small b small (suc n) p zero = word-small b small p
+words-small b small (suc n) p (suc i) = words-small b small n (p + 4) i

@@ -1,10 +1,11 @@
 -- The whole of one unit, and what of it counts: the own bits of each word.
-use Prim.Native.Nat.{ℕ, suc, _+_, _*_, _%_}
+use Prim.Native.Nat.{ℕ, suc, _+_, _*_, _%_, _^_, _<_}
 use mathlib.Core.List.{List, [], _∷_}
 use mathlib.Core.Path.{_≡_}
 use lib.Dec.{eqb, ltb}
 use lib.ListN.{length}
 use Rattle.words.specs.Words.{pick}
+use Rattle.fields.specs.Fields.{Words}
 use Rattle.state.specs.Own.{ownIdr, ownScr, ownSsr, ownSctr, ownStatus, ownArea, ownTag, ownFrame, ownCode, ownPointer}
 use Rattle.state.specs.declared.Registers.{Registers}
 use Rattle.state.specs.declared.FaultPair.{FaultPair}
@@ -28,6 +29,13 @@ pub record Sized (c : Chip) : Type 0 where
   pub patc : length (c .patc) ≡ 112
   pub lines : length (c .lines) ≡ 1280
   pub cells : length (c .cells) ≡ 4096
+
+-- SAR, PFAR, the ports and cache data have no unused bits: they are words of 32 bits
+pub record Fit (c : Chip) : Type 0 where
+  pub sar : c .registers .sar < 2 ^ 32
+  pub address : c .pair .address < 2 ^ 32
+  pub ports : Words (c .registers .ports)
+  pub cells : Words (c .cells)
 
 -- the own bits of word i of a list laid out so: whole words; a page word, then its frame word; four tag words, then the use code
 unfoldable pub ownWord : Layout → ℕ → ℕ → ℕ

@@ -153,9 +153,10 @@ module _ (b : List ℕ) (p : ℕ) where
 
 -- ---- the verdict
 
-pick-zero : (x : Bool) (a n : ℕ) → pick x a (suc n) ≡ 0 → (x ≡ true) × (a ≡ 0)
-pick-zero true a n e = (refl, e)
-pick-zero false a n e = absurd (omega arith)
+-- a pick that is not its second choice
+pub first-is : (x : Bool) (a n m : ℕ) → (n ≡ m → ⊥) → pick x a n ≡ m → (x ≡ true) × (a ≡ m)
+first-is true a n m h e = (refl, e)
+first-is false a n m h e = absurd (h e)
 
 -- an image that is taken passes each test
 pub record Passes (b : List ℕ) : Type 0 where
@@ -167,10 +168,10 @@ pub record Passes (b : List ℕ) : Type 0 where
 pub taken-passes : (b : List ℕ) → verdictOf b ≡ 0 → Passes b
 unfolding verdictOf
 taken-passes b v =
-    let v7 = pick-zero (eqb (length b) 22039) _ 6 v in
-    let v8 = pick-zero (headsOf b) _ 7 (v7 .1) in
-    let v9 = pick-zero (bitsRight (readOf b)) _ 8 (v8 .1) in
-    let v10 = pick-zero (noDoubles (readOf b)) _ 9 (v9 .1) in
+    let v7 = first-is (eqb (length b) 22039) _ 7 0 (λ e. omega arith) v in
+    let v8 = first-is (headsOf b) _ 8 0 (λ e. omega arith) (v7 .1) in
+    let v9 = first-is (bitsRight (readOf b)) _ 9 0 (λ e. omega arith) (v8 .1) in
+    let v10 = first-is (noDoubles (readOf b)) _ 10 0 (λ e. omega arith) (v9 .1) in
     record { long = eqb-true _ _ (v7 .0); heads = v8 .0; right = v9 .0; single = v10 .0 }
 
 pub passes-taken : (b : List ℕ) → Passes b → verdictOf b ≡ 0

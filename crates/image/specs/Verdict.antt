@@ -47,9 +47,13 @@ abbrev pub allOrders : ℕ → (ℕ → ℕ) → Bool
 allOrders n word = below n (λ s. isOrder (ownCode (word (s * 5 + 4))))
 
 -- 10: two valid lines with one tag, or two valid PATC entries with one page and space
+abbrev pub valid : Kind → ℕ → Bool
+valid Line w = not (eqb (bitsOf w 1 0) 3)
+valid Entry w = bitOf w 0
+
 unfoldable pub alike : Kind → ℕ → ℕ → Bool
-alike Line a b = not (eqb (bitsOf a 1 0) 3) && not (eqb (bitsOf b 1 0) 3) && eqb (bitsOf a 31 12) (bitsOf b 31 12)
-alike Entry a b = bitOf a 0 && bitOf b 0 && eqb (bitsOf a 31 12) (bitsOf b 31 12) && eqb (bitsOf a 1 1) (bitsOf b 1 1)
+alike Line a b = valid Line a && valid Line b && eqb (bitsOf a 31 12) (bitsOf b 31 12)
+alike Entry a b = valid Entry a && valid Entry b && eqb (bitsOf a 31 12) (bitsOf b 31 12) && eqb (bitsOf a 1 1) (bitsOf b 1 1)
 
 -- no two of the first n are alike
 abbrev pub apart : Kind → ℕ → (ℕ → ℕ) → Bool
