@@ -1,21 +1,20 @@
 -- Laws of fields: what stands where, and that words come back from their bytes and bytes from their words.
 use Prim.Native.Nat.{ℕ, zero, suc, _+_, _-_, _*_, _/_, _%_, _^_, _<_, _≤_}
 use mathlib.Core.Path.{_≡_, refl, sym, ap, _∙_}
-use mathlib.Core.Bool.{Bool, true, false, _&&_}
-use mathlib.Core.List.{List, [], _∷_, _++_, append-assoc, append-nil}
+use mathlib.Core.Bool.{Bool, true, false, _&&_, false≢true}
+use mathlib.Core.List.{List, [], _∷_, _++_, append-nil}
 use native.Mathlib.Omega.{arith}
 use borrow.Author.Tests.{eq-eqb, eqb-true}
 use lib.Dec.{eqb}
 use lib.ListN.{length, take, drop, getD, set, take-append-drop}
-use lib.Seq.{sets, drop-cons, sets-eq, take-all, take-suc-set, append-snoc, drop-drop, drop-at, take-add, getD-drop}
-use Rattle.words.specs.Words.{byteOf, joinOf}
+use lib.Seq.{sets, drop-cons, sets-eq, take-all, take-suc-set, append-snoc, drop-drop, drop-at, getD-drop}
 use Rattle.words.specs.Laws.{join-bytes, byte-joins, join-small}
 use Rattle.fields.specs.Fields.{wordBytes, bytesOf, wordAt, wordsAt, headOf, fieldOf, rowOf, countAt, headAt, Bytes, Words}
 
 -- where two tests hold, each does
 pub both : (x y : Bool) → (x && y) ≡ true → (x ≡ true) × (y ≡ true)
 both true y e = (refl, e)
-both false y e = let z : _≡_ {A = ℕ} 0 1 = cc in absurd (omega arith)
+both false y e = absurd (false≢true e)
 
 -- ---- lengths
 
@@ -27,6 +26,10 @@ length-bytes (w ∷ ws) = omega (arith, length-bytes ws)
 pub length-field : (tag : ℕ) (content : List ℕ) → length (fieldOf tag content) ≡ 3 + length content
 unfolding fieldOf
 length-field tag content = omega arith
+
+-- a field of n words
+pub length-words-field : (tag : ℕ) (ws : List ℕ) (n : ℕ) → length ws ≡ n → length (fieldOf tag (bytesOf ws)) ≡ 3 + n * 4
+length-words-field tag ws n e = length-field tag (bytesOf ws) ∙ ap (λ (k : ℕ). 3 + k) (length-bytes ws ∙ rw e)
 
 pub length-words : (b : List ℕ) (p n : ℕ) → length (wordsAt b p n) ≡ n
 unfolding wordsAt
@@ -122,13 +125,10 @@ words-back (w ∷ ws) b p rest small e =
 
 -- a row of fields, the first of them of n words: its head stands there, its words after that, and then the rest of the row
 module _ (b : List ℕ) (p tag : ℕ) (ws : List ℕ) (rest : List (List ℕ)) (n : ℕ) (size : length ws ≡ n) (stands : drop p b ≡ rowOf (fieldOf tag (bytesOf ws) ∷ rest)) where
-  long : length (bytesOf ws) ≡ n * 4
-  long = length-bytes ws ∙ rw size
-
   pub row-head : headAt b p tag (n * 4) ≡ true
   unfolding fieldOf rowOf
   row-head =
-      rw (byte-at b p _ 0 p stands (omega arith), byte-at b p _ 1 (p + 1) stands refl, byte-at b p _ 2 (p + 2) stands refl, eq-eqb tag tag refl, long)
+      rw (byte-at b p _ 0 p stands (omega arith), byte-at b p _ 1 (p + 1) stands refl, byte-at b p _ 2 (p + 2) stands refl, eq-eqb tag tag refl, length-bytes ws, size)
       (eq-eqb (n * 4 / 256 * 256 + n * 4 % 256) (n * 4) (omega arith))
 
   pub row-words : Words ws → wordsAt b (p + 3) n ≡ ws
@@ -137,7 +137,7 @@ module _ (b : List ℕ) (p tag : ℕ) (ws : List ℕ) (rest : List (List ℕ)) (
 
   pub row-next : drop (p + (3 + n * 4)) b ≡ rowOf rest
   unfolding rowOf
-  row-next = next b p (fieldOf tag (bytesOf ws)) (rowOf rest) (3 + n * 4) stands (length-field tag (bytesOf ws) ∙ rw long)
+  row-next = next b p (fieldOf tag (bytesOf ws)) (rowOf rest) (3 + n * 4) stands (length-words-field tag ws n size)
 
 -- ---- bytes that are read and written back
 

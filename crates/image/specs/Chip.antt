@@ -1,5 +1,5 @@
 -- The whole of one unit, and what of it counts: the own bits of each word.
-use Prim.Native.Nat.{ℕ, suc, _+_, _*_, _%_, _^_, _<_}
+use Prim.Native.Nat.{ℕ, suc, _%_, _^_, _<_}
 use mathlib.Core.List.{List, [], _∷_}
 use mathlib.Core.Path.{_≡_}
 use lib.Dec.{eqb, ltb}

@@ -1,15 +1,13 @@
 -- The saved image, edition 1: five tagged fields in a row, 22,039 bytes.
-use Prim.Native.Nat.{ℕ, _+_, _*_}
-use mathlib.Core.Bool.{Bool, _&&_}
+use Prim.Native.Nat.{ℕ, _+_}
 use mathlib.Core.List.{List, [], _∷_, _++_}
-use lib.Dec.{eqb, ltb}
-use lib.ListN.{length, getD, drop}
-use Rattle.words.specs.Words.{pick, bitsOf, bitOf}
-use Rattle.fields.specs.Fields.{bytesOf, wordAt, wordsAt, fieldOf, rowOf, headAt}
+use lib.Dec.{ltb}
+use lib.ListN.{length, drop}
+use Rattle.words.specs.Words.{pick}
+use Rattle.fields.specs.Fields.{bytesOf, wordAt, wordsAt, fieldOf, rowOf}
 use Rattle.state.specs.declared.Registers.{Registers}
 use Rattle.state.specs.declared.FaultPair.{FaultPair}
 use Rattle.image.specs.Chip.{Chip, chip, ownOf}
-use Rattle.image.specs.declared.Restored.{Restored}
 
 -- ---- writing
 

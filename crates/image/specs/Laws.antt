@@ -1,50 +1,26 @@
--- Laws of own words, of the tests and of the image: what is written reads back, and what reads is what would be written.
-use Prim.Native.Nat.{ℕ, zero, suc, _+_, _-_, _*_, _/_, _%_, _^_, _<_, _≤_}
+-- What the functions' proofs cite: stores of own words, the row of fields, tests on bytes, what saving and restoring answer.
+use Prim.Native.Nat.{ℕ, suc, _+_, _-_, _*_, _<_, _≤_}
 use mathlib.Core.Path.{_≡_, refl, sym, ap, _∙_}
-use mathlib.Core.Bool.{Bool, true, false, not, _&&_}
-use mathlib.Core.List.{List, [], _∷_, _++_, append-nil}
+use mathlib.Core.Bool.{Bool, true, false, not}
+use mathlib.Core.List.{List, [], _++_, append-nil}
 use native.Mathlib.Omega.{arith}
 use borrow.Author.Tests.{lt-ltb, le-ltb, eq-eqb, ne-eqb, eqb-true}
 use lib.Dec.{eqb}
-use Rattle.words.specs.Words.{pick}
-use lib.ListN.{length, length-append, take, drop, getD, set, drop-of-length-le}
+use lib.ListN.{length, length-append, drop, getD, drop-of-length-le}
 use lib.Seq.{sets, drop-cons}
+use Rattle.words.specs.Words.{pick}
 use Rattle.fields.specs.Fields.{wordBytes, bytesOf, wordAt, wordFrom, wordsAt, fieldOf, rowOf}
-use Rattle.fields.specs.Laws.{length-bytes, length-field, sets-append, sets-front, words-at}
+use Rattle.fields.specs.Laws.{length-words-field, sets-append, sets-front, words-at}
 use Rattle.image.specs.declared.Layout.{Layout}
 use Rattle.image.specs.declared.Layout.the-variants.{Whole, Entries, Sets}
 use Rattle.image.specs.declared.Kind.{Kind}
 use Rattle.image.specs.declared.Kind.the-variants.{Line, Entry}
 use Rattle.image.specs.Below.{below-same}
-use Rattle.image.specs.Verdict.{nth, allOwn, allOrders, apart, setsApart, headsOf, bitsRight, noDoubles, verdictOf, loadedWith, restoreOf}
+use Rattle.image.specs.Tests.{nth, allOwn, allOrders, apart, setsApart, bitsRight, noDoubles}
+use Rattle.image.specs.Verdict.{headsOf, verdictOf, loadedWith, restoreOf}
 use Rattle.image.specs.Chip.{Chip, Sized, ownWord, ownFrom, ownWords, ownRegisters, ownPair, ownOf}
 use Rattle.image.specs.Image.{registerWords, fieldsOf, imageOf, readOf, saved, saveOf}
-
--- ---- own words
-
-pub length-own : (layout : Layout) (i : ℕ) (ws : List ℕ) → length (ownFrom layout i ws) ≡ length ws
-unfolding ownFrom
-length-own layout i [] = refl
-length-own layout i (w ∷ ws) = ap suc (length-own layout (suc i) ws)
-
--- .. as bytes
-pub length-own-bytes : (layout : Layout) (ws : List ℕ) → length (bytesOf (ownWords layout ws)) ≡ length ws * 4
-length-own-bytes layout ws = length-bytes (ownWords layout ws) ∙ rw (length-own layout 0 ws)
-
--- of whole words every bit is own
-pub own-whole : (i : ℕ) (ws : List ℕ) → ownFrom Whole i ws ≡ ws
-unfolding ownFrom ownWord
-own-whole i [] = refl
-own-whole i (w ∷ ws) = ap (λ (l : List ℕ). w ∷ l) (own-whole (suc i) ws)
-
-pub own-sized : (c : Chip) → Sized c → Sized (ownOf c)
-unfolding ownRegisters
-own-sized c size = record {
-  ports = size .ports;
-  patc = length-own Entries 0 (c .patc) ∙ size .patc;
-  lines = length-own Sets 0 (c .lines) ∙ size .lines;
-  cells = size .cells;
-}
+use Rattle.image.specs.Own.{own-whole, own-sized}
 
 -- ---- words stored one by one: at first none, then one more, at last all
 
@@ -66,28 +42,26 @@ put-all layout src out at i h = rw (drop-of-length-le src {i = i} h)
 
 -- ---- the row of fields
 
-length-words-field : (tag : ℕ) (ws : List ℕ) (n : ℕ) → length ws ≡ n → length (fieldOf tag (bytesOf ws)) ≡ 3 + n * 4
-length-words-field tag ws n e = length-field tag (bytesOf ws) ∙ ap (λ (k : ℕ). 3 + k) (length-bytes ws ∙ rw e)
-
+-- how long each field is
 module _ (c : Chip) (size : Sized c) where
-  at1 : length (fieldOf 1 (bytesOf (registerWords (c .registers) (c .pair)))) ≡ 43
-  at1 = length-words-field 1 _ 10 refl
+  size1 : length (fieldOf 1 (bytesOf (registerWords (c .registers) (c .pair)))) ≡ 43
+  size1 = length-words-field 1 _ 10 refl
 
-  at2 : length (fieldOf 2 (bytesOf (c .registers .ports))) ≡ 35
-  at2 = length-words-field 2 _ 8 (size .ports)
+  size2 : length (fieldOf 2 (bytesOf (c .registers .ports))) ≡ 35
+  size2 = length-words-field 2 _ 8 (size .ports)
 
-  at3 : length (fieldOf 3 (bytesOf (c .patc))) ≡ 451
-  at3 = length-words-field 3 _ 112 (size .patc)
+  size3 : length (fieldOf 3 (bytesOf (c .patc))) ≡ 451
+  size3 = length-words-field 3 _ 112 (size .patc)
 
-  at4 : length (fieldOf 4 (bytesOf (c .lines))) ≡ 5123
-  at4 = length-words-field 4 _ 1280 (size .lines)
+  size4 : length (fieldOf 4 (bytesOf (c .lines))) ≡ 5123
+  size4 = length-words-field 4 _ 1280 (size .lines)
 
-  at5 : length (fieldOf 5 (bytesOf (c .cells))) ≡ 16387
-  at5 = length-words-field 5 _ 4096 (size .cells)
+  size5 : length (fieldOf 5 (bytesOf (c .cells))) ≡ 16387
+  size5 = length-words-field 5 _ 4096 (size .cells)
 
   pub length-row : length (rowOf (fieldsOf c)) ≡ 22039
   unfolding rowOf
-  length-row = simp length-append (omega (arith, at1, at2, at3, at4, at5))
+  length-row = simp length-append (omega (arith, size1, size2, size3, size4, size5))
 
   -- the five fields stored one after the other
   pub row-run : (o o1 o2 o3 o4 o5 : List ℕ) → 22039 ≤ length o
@@ -107,10 +81,10 @@ module _ (c : Chip) (size : Sized c) where
       let whole : sets o 0 (rowOf (fieldsOf c)) ≡ rowOf (fieldsOf c) ++ drop 22039 o = sets-front (rowOf (fieldsOf c)) o (omega (arith, length-row)) ∙ rw length-row in
       rw (e5, e4, e3, e2, e1)
       (ap (sets _ 5652) (sym (append-nil f5))
-      ∙ sets-append f4 (f5 ++ []) _ 529 5652 (omega (arith, at4))
-      ∙ sets-append f3 (f4 ++ (f5 ++ [])) _ 78 529 (omega (arith, at3))
-      ∙ sets-append f2 (f3 ++ (f4 ++ (f5 ++ []))) _ 43 78 (omega (arith, at2))
-      ∙ sets-append f1 (f2 ++ (f3 ++ (f4 ++ (f5 ++ [])))) o 0 43 (omega (arith, at1))
+      ∙ sets-append f4 (f5 ++ []) _ 529 5652 (omega (arith, size4))
+      ∙ sets-append f3 (f4 ++ (f5 ++ [])) _ 78 529 (omega (arith, size3))
+      ∙ sets-append f2 (f3 ++ (f4 ++ (f5 ++ []))) _ 43 78 (omega (arith, size2))
+      ∙ sets-append f1 (f2 ++ (f3 ++ (f4 ++ (f5 ++ [])))) o 0 43 (omega (arith, size1))
       ∙ whole)
 
 -- what saving answers: no room, or the image before what stood past it
@@ -138,6 +112,10 @@ pub apart-same : (kind : Kind) (n : ℕ) (f g : ℕ → ℕ) → ((k : ℕ) → 
 apart-same kind n f g e =
     below-same n _ _ (λ j h. below-same j _ _ (λ i l. rw (e i (omega arith), e j h)))
 
+-- the lines of set s, every four bytes from where the set stands
+pub set-bytes : (b : List ℕ) (p s : ℕ) → apart Line 4 (λ i. wordFrom b p 4 (s * 5 + i)) ≡ apart Line 4 (wordFrom b (p + s * 20) 4)
+set-bytes b p s = apart-same Line 4 _ _ (λ i h. ap (wordAt b) (omega arith))
+
 module _ (b : List ℕ) (p : ℕ) where
   pub own-bytes : (layout : Layout) (n : ℕ) → allOwn layout n (nth (wordsAt b p n)) ≡ allOwn layout n (wordFrom b p 4)
   own-bytes layout n = below-same n _ _ (λ i h. rw (words-at b p n i h))
@@ -153,10 +131,10 @@ module _ (b : List ℕ) (p : ℕ) where
 
 -- ---- the verdict
 
--- a pick that is not its second choice
-pub first-is : (x : Bool) (a n m : ℕ) → (n ≡ m → ⊥) → pick x a n ≡ m → (x ≡ true) × (a ≡ m)
-first-is true a n m h e = (refl, e)
-first-is false a n m h e = absurd (h e)
+-- a test that did not give its number passed, and the others gave the answer
+pub passed : (x : Bool) (n a m : ℕ) → (n ≡ m → ⊥) → pick (not x) n a ≡ m → (x ≡ true) × (a ≡ m)
+passed true n a m h e = (refl, e)
+passed false n a m h e = absurd (h e)
 
 -- an image that is taken passes each test
 pub record Passes (b : List ℕ) : Type 0 where
@@ -168,10 +146,10 @@ pub record Passes (b : List ℕ) : Type 0 where
 pub taken-passes : (b : List ℕ) → verdictOf b ≡ 0 → Passes b
 unfolding verdictOf
 taken-passes b v =
-    let v7 = first-is (eqb (length b) 22039) _ 7 0 (λ e. omega arith) v in
-    let v8 = first-is (headsOf b) _ 8 0 (λ e. omega arith) (v7 .1) in
-    let v9 = first-is (bitsRight (readOf b)) _ 9 0 (λ e. omega arith) (v8 .1) in
-    let v10 = first-is (noDoubles (readOf b)) _ 10 0 (λ e. omega arith) (v9 .1) in
+    let v7 = passed (eqb (length b) 22039) 7 _ 0 (λ e. omega arith) v in
+    let v8 = passed (headsOf b) 8 _ 0 (λ e. omega arith) (v7 .1) in
+    let v9 = passed (bitsRight (readOf b)) 9 _ 0 (λ e. omega arith) (v8 .1) in
+    let v10 = passed (noDoubles (readOf b)) 10 _ 0 (λ e. omega arith) (v9 .1) in
     record { long = eqb-true _ _ (v7 .0); heads = v8 .0; right = v9 .0; single = v10 .0 }
 
 pub passes-taken : (b : List ℕ) → Passes b → verdictOf b ≡ 0

@@ -1,14 +1,14 @@
 -- The tests say what they are to say: a unit passes 9 and 10 just where it is well formed, and fails 10 just where something is doubled.
-use Prim.Native.Nat.{ℕ, zero, suc, _+_, _-_, _*_, _/_, _%_, _<_, _≤_}
+use Prim.Native.Nat.{ℕ, _+_, _-_, _*_, _/_, _%_, _<_}
 use mathlib.Core.Path.{_≡_, refl, sym, ap, subst, _∙_}
 use mathlib.Core.Bool.{Bool, true, false, not, _&&_, true≢false, and-false}
-use mathlib.Core.List.{List, [], _∷_}
+use mathlib.Core.List.{List}
 use mathlib.Core.Logic.{_⊎_, inl, inr, ⊎-elim}
 use native.Mathlib.Omega.{arith}
 use native.Mathlib.Decide.{ℕ-discrete}
 use borrow.Author.Tests.{eq-eqb, eqb-true, ltb-true, ltb-false, not-true, not-false}
 use lib.Dec.{eqb, ltb}
-use lib.ListN.{length, getD, set}
+use lib.ListN.{length}
 use Rattle.words.specs.Words.{bitsOf, pick}
 use Rattle.order.specs.Order.{isOrder}
 use Rattle.order.specs.Laws.{below, below-at}
@@ -20,12 +20,14 @@ use Rattle.image.specs.declared.Layout.{Layout}
 use Rattle.image.specs.declared.Layout.the-variants.{Entries, Sets}
 use Rattle.image.specs.declared.Kind.{Kind}
 use Rattle.image.specs.declared.Kind.the-variants.{Line, Entry}
-use Rattle.image.specs.Chip.{Chip, Sized, Fit, ownWord, ownFrom, ownWords, ownRegisters, ownPair, ownOf}
-use Rattle.image.specs.Verdict.{nth, isOwn, registersOwn, allOwn, allOrders, valid, alike, apart, setsApart, headsOf, bitsRight, noDoubles, verdictOf}
+use Rattle.image.specs.Chip.{Chip, Sized, Fit, ownWord, ownWords, ownRegisters, ownPair, ownOf}
+use Rattle.image.specs.Tests.{nth, isOwn, registersOwn, allOwn, allOrders, valid, alike, apart, setsApart, bitsRight, noDoubles}
+use Rattle.image.specs.Verdict.{headsOf, verdictOf}
 use Rattle.image.specs.WellFormed.Doubles.{lines, entries}
 use Rattle.image.specs.WellFormed.{lineOf, codeOf, pageOf, OneTag, OnePage, WellFormed, Doubles}
 use Rattle.image.specs.Image.{readOf}
-use Rattle.image.specs.Laws.{first-is}
+use Rattle.image.specs.Laws.{passed}
+use Rattle.image.specs.Own.{own-at, own-fixed, code-own}
 use Rattle.image.specs.Below.{below-of, below-where, below-not}
 
 -- ---- alike
@@ -127,42 +129,20 @@ undoubled c (entries i j h l o) = rw (apart-not Entry 56 (pageOf c) i j h l (pag
 pub ten-doubles : (b : List ℕ) → verdictOf b ≡ 10 → Doubles (readOf b)
 unfolding verdictOf
 ten-doubles b v =
-    let v7 = first-is (eqb (length b) 22039) _ 7 10 (λ e. omega arith) v in
-    let v8 = first-is (headsOf b) _ 8 10 (λ e. omega arith) (v7 .1) in
-    let v9 = first-is (bitsRight (readOf b)) _ 9 10 (λ e. omega arith) (v8 .1) in
-    doubled (readOf b) (second (noDoubles (readOf b)) (v9 .1))
+    let v7 = passed (eqb (length b) 22039) 7 _ 10 (λ e. omega arith) v in
+    let v8 = passed (headsOf b) 8 _ 10 (λ e. omega arith) (v7 .1) in
+    let v9 = passed (bitsRight (readOf b)) 9 _ 10 (λ e. omega arith) (v8 .1) in
+    doubled (readOf b) (failed (noDoubles (readOf b)) (v9 .1))
   where
-    second : (x : Bool) → _≡_ {A = ℕ} (pick x 0 10) 10 → x ≡ false
-    second true e = absurd (omega arith)
-    second false e = refl
+    failed : (x : Bool) → _≡_ {A = ℕ} (pick (not x) 10 0) 10 → x ≡ false
+    failed true e = absurd (omega arith)
+    failed false e = refl
 
 pub doubles-ten : (b : List ℕ) → length b ≡ 22039 → headsOf b ≡ true → bitsRight (readOf b) ≡ true → Doubles (readOf b) → verdictOf b ≡ 10
 unfolding verdictOf
 doubles-ten b long heads right d = rw (eq-eqb _ _ long, heads, right, undoubled (readOf b) d)
 
 -- ---- number 9: the own bits are the whole word
-
--- word i of the own words
-pub own-at : (layout : Layout) (k : ℕ) (ws : List ℕ) (i : ℕ) → i < length ws → nth (ownFrom layout k ws) i ≡ ownWord layout (k + i) (nth ws i)
-unfolding ownFrom
-own-at layout k [] i h = absurd (omega arith)
-own-at layout k (w ∷ ws) zero h = ap (λ (m : ℕ). ownWord layout m w) (omega arith)
-own-at layout k (w ∷ ws) (suc i) h = own-at layout (suc k) ws i (omega arith) ∙ ap (λ (m : ℕ). ownWord layout m (nth ws i)) (omega arith)
-
-pub own-fixed : (layout : Layout) (k : ℕ) (ws : List ℕ) → ((i : ℕ) → i < length ws → ownWord layout (k + i) (nth ws i) ≡ nth ws i) → ownFrom layout k ws ≡ ws
-unfolding ownFrom
-own-fixed layout k [] h = refl
-own-fixed layout k (w ∷ ws) h =
-    let first : ownWord layout k w ≡ w = ap (λ (m : ℕ). ownWord layout m w) (omega arith) ∙ h 0 (omega arith) in
-    rw (first, own-fixed layout (suc k) ws (λ i l. ap (λ (m : ℕ). ownWord layout m (nth ws i)) (omega arith) ∙ h (suc i) (omega arith)))
-
--- a stored word
-pub own-set : (layout : Layout) (k : ℕ) (ws : List ℕ) (i v : ℕ) → ownFrom layout k (set ws i v) ≡ set (ownFrom layout k ws) i (ownWord layout (k + i) v)
-unfolding ownFrom
-own-set layout k [] i v = refl
-own-set layout k (w ∷ ws) zero v = ap (λ (m : ℕ). ownWord layout m v ∷ ownFrom layout (suc k) ws) (omega arith)
-own-set layout k (w ∷ ws) (suc i) v =
-    ap (λ (l : List ℕ). ownWord layout k w ∷ l) (own-set layout (suc k) ws i v ∙ ap (λ (m : ℕ). set (ownFrom layout (suc k) ws) i (ownWord layout m v)) (omega arith))
 
 module _ (layout : Layout) (ws : List ℕ) (n : ℕ) (size : length ws ≡ n) where
   pub words-own : allOwn layout n (nth ws) ≡ true → ownWords layout ws ≡ ws
@@ -204,11 +184,6 @@ own-registers u pair e p =
     )
 
 -- ---- well formed
-
--- the use code of a set among its own words
-code-own : (i w : ℕ) → i % 5 ≡ 4 → ownWord Sets i w ≡ ownCode w
-unfolding ownWord
-code-own i w e = rw e
 
 module _ (c : Chip) (size : Sized c) where
   codes : ownWords Sets (c .lines) ≡ c .lines → (s : ℕ) → s < 256 → ownCode (codeOf c s) ≡ codeOf c s
@@ -267,3 +242,20 @@ well-checked c w = (own-right c (w .sized) (w .own) (w .orders), rw (below-of 25
 
     pages : apart Entry 56 (pageOf c) ≡ true
     pages = apart-of Entry 56 (pageOf c) (λ i j k l. differs _ (λ e. let q = w .entries i j (omega arith) l (one-page _ _ e) in omega arith))
+
+-- the same of lines by their place, 4 x set + number
+abbrev pub OnePlace : Chip → Type 0
+OnePlace c =
+    (p q : ℕ) → p < 1024 → q < 1024 → p / 4 ≡ q / 4 → OneTag (lineOf c (p / 4) (p % 4)) (lineOf c (q / 4) (q % 4)) → p ≡ q
+
+pub well-places : (c : Chip) → WellFormed c → OnePlace c
+well-places c w p q hp hq e o =
+    let same : p % 4 ≡ q % 4 = w .lines (p / 4) (p % 4) (q % 4) (omega arith) (omega arith) (omega arith) (subst (λ (s : ℕ). OneTag (lineOf c (p / 4) (p % 4)) (lineOf c s (q % 4))) (sym e) o) in
+    omega arith
+
+pub places-well : (c : Chip) → OnePlace c → (s i j : ℕ) → s < 256 → i < 4 → j < 4 → OneTag (lineOf c s i) (lineOf c s j) → i ≡ j
+places-well c one s i j hs hi hj o =
+    let q : (n : ℕ) → n < 4 → (s * 4 + n) / 4 ≡ s = λ n h. omega arith in
+    let r : (n : ℕ) → n < 4 → (s * 4 + n) % 4 ≡ n = λ n h. omega arith in
+    let same : s * 4 + i ≡ s * 4 + j = one (s * 4 + i) (s * 4 + j) (omega arith) (omega arith) (q i hi ∙ sym (q j hj)) (rw (q i hi, q j hj, r i hi, r j hj) o) in
+    omega arith

@@ -1,25 +1,21 @@
 -- The round trips: what is written reads as what was written, and what reads is what would be written.
-use Prim.Native.Nat.{ℕ, zero, suc, _+_, _-_, _*_, _/_, _%_, _^_, _<_, _≤_}
+use Prim.Native.Nat.{ℕ, _+_, _-_, _*_, _<_, _≤_}
 use mathlib.Core.Path.{_≡_, refl, sym, ap, _∙_}
-use mathlib.Core.Bool.{Bool, true, false, _&&_}
-use mathlib.Core.List.{List, [], _∷_, _++_}
+use mathlib.Core.Bool.{true}
+use mathlib.Core.List.{List, [], _++_}
 use native.Mathlib.Omega.{arith}
 use native.Mathlib.Decide.{ℕ-discrete}
 use borrow.Author.Tests.{le-ltb}
-use lib.Dec.{eqb, ltb}
 use lib.ListN.{length, drop, drop-of-length-le}
-use Rattle.words.specs.Laws.{either}
-use Rattle.fields.specs.Fields.{bytesOf, wordAt, wordsAt, fieldOf, rowOf, headAt, Bytes, Words}
-use Rattle.fields.specs.Laws.{both, length-bytes, length-words, words-at, words-back, row-head, row-words, row-next, field-back, word-small, words-small}
-use Rattle.state.specs.Own.{ownIdr, ownScr, ownSsr, ownSctr, ownStatus, ownArea, ownTag, ownFrame, ownCode, ownPointer, pointer-small}
-use Rattle.state.specs.declared.Registers.{Registers}
-use Rattle.state.specs.declared.FaultPair.{FaultPair}
-use Rattle.image.specs.declared.Layout.{Layout}
+use Rattle.fields.specs.Fields.{wordAt, wordsAt, rowOf, headAt, Bytes, Words}
+use Rattle.fields.specs.Laws.{both, length-words, words-at, row-head, row-words, row-next, field-back, word-small, words-small}
 use Rattle.image.specs.declared.Layout.the-variants.{Entries, Sets}
-use Rattle.image.specs.Chip.{Chip, chip, Sized, Fit, ownWord, ownFrom, ownRegisters, ownPair, ownOf}
+use Rattle.image.specs.Chip.{Chip, chip, Sized, Fit, ownRegisters, ownOf}
 use Rattle.image.specs.Image.{registerWords, fieldsOf, imageOf, registersAt, pairAt, readOf, saved, saveOf}
-use Rattle.image.specs.Verdict.{nth, headsOf, verdictOf, restoreOf, loadedWith}
-use Rattle.image.specs.Laws.{length-row, own-sized, taken-passes, passes-taken, restore-refused, restore-done}
+use Rattle.image.specs.Tests.{nth}
+use Rattle.image.specs.Verdict.{headsOf, verdictOf, restoreOf, loadedWith}
+use Rattle.image.specs.Laws.{length-row, taken-passes, passes-taken, restore-refused, restore-done}
+use Rattle.image.specs.Own.{own-sized, own-own, entry-small, set-small, own-small, registers-small}
 use Rattle.image.specs.WellFormed.{WellFormed}
 use Rattle.image.specs.Sound.{checked-well, well-checked}
 
@@ -80,39 +76,6 @@ module _ (c : Chip) (size : Sized c) where
       reg : (i : ℕ) → i < 10 → wordAt row (3 + i * 4) ≡ nth (registerWords (c .registers) (c .pair)) i
       reg i h = sym (words-at row 3 10 i h) ∙ ap (λ (l : List ℕ). nth l i) (row-words row 0 1 _ _ 10 refl f1 wr)
 
--- ---- own words are words of 32 bits
-
-entry-small : (i w : ℕ) → ownWord Entries i w < 2 ^ 32
-unfolding ownWord ownTag ownFrame
-entry-small i w = either (λ (v : ℕ). v < 2 ^ 32) (eqb (i % 2) 0) (λ _. omega arith) (λ _. omega arith)
-
-set-small : (i w : ℕ) → ownWord Sets i w < 2 ^ 32
-unfolding ownWord ownTag ownCode
-set-small i w = either (λ (v : ℕ). v < 2 ^ 32) (ltb (i % 5) 4) (λ _. omega arith) (λ _. omega arith)
-
-own-small : (layout : Layout) → ((i w : ℕ) → ownWord layout i w < 2 ^ 32) → (k : ℕ) (ws : List ℕ) → Words (ownFrom layout k ws)
-unfolding ownFrom
-own-small layout h k [] i = omega arith
-own-small layout h k (w ∷ ws) zero = h k w
-own-small layout h k (w ∷ ws) (suc i) = own-small layout h (suc k) ws i
-
--- .. of a list that is written out
-abbrev Each : List ℕ → Type 0
-Each [] = Unit
-Each (w ∷ ws) = (w < 2 ^ 32) × Each ws
-
-each-word : (ws : List ℕ) → Each ws → Words ws
-each-word [] h i = omega arith
-each-word (w ∷ ws) h zero = h .0
-each-word (w ∷ ws) h (suc i) = each-word ws (h .1) i
-
-registers-small : (u : Registers) (pair : FaultPair) → u .sar < 2 ^ 32 → pair .address < 2 ^ 32 → Words (registerWords (ownRegisters u) (ownPair pair))
-unfolding ownRegisters ownPair ownIdr ownScr ownSsr ownSctr ownStatus ownArea
-registers-small u pair hs ha =
-    let hp : ownPointer (u .pointer) ≤ 55 = pointer-small (u .pointer) in
-    each-word (registerWords (ownRegisters u) (ownPair pair))
-    (omega arith, (omega arith, (omega arith, (hs, (omega arith, (omega arith, (ha, (omega arith, (omega arith, (omega arith, tt))))))))))
-
 -- ---- images
 
 -- an image is 22,039 bytes, with each head at its place, whatever the unit
@@ -129,6 +92,11 @@ pub image-read : (c : Chip) → Sized c → Fit c → readOf (imageOf c) ≡ own
 unfolding imageOf row ownRegisters
 image-read c size fit =
     row-read (ownOf c) (own-sized c size) (registers-small (c .registers) (c .pair) (fit .sar) (fit .address)) (fit .ports) (own-small Entries entry-small 0 (c .patc)) (own-small Sets set-small 0 (c .lines)) (fit .cells)
+
+-- foreign bits change no image
+pub image-own : (c : Chip) → imageOf (ownOf c) ≡ imageOf c
+unfolding imageOf
+image-own c = ap (λ (d : Chip). rowOf (fieldsOf d)) (own-own c)
 
 -- the image of a well-formed unit is taken, and reads as that unit
 pub written-reads : (c : Chip) → WellFormed c → readOf (imageOf c) ≡ c

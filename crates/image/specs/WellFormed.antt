@@ -6,7 +6,7 @@ use Rattle.words.specs.Words.{bitsOf}
 use Rattle.order.specs.Order.{isOrder}
 use Rattle.image.specs.declared.Kind.the-variants.{Line, Entry}
 use Rattle.image.specs.Chip.{Chip, Sized, Fit, ownOf}
-use Rattle.image.specs.Verdict.{nth, valid}
+use Rattle.image.specs.Tests.{nth, valid}
 
 -- the tag word of line n of set s, the use code of set s, the page word of entry i
 abbrev pub lineOf : Chip → ℕ → ℕ → ℕ

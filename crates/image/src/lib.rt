@@ -1,10 +1,10 @@
 // The saved image of a unit, edition 1: writing it, testing it, reading it.
 mod read;
+mod tests;
 mod verdict;
 mod write;
 
 ghost use mathlib.Core.Path.{_≡_};
-ghost use Prim.Native.Nat.{_≤_};
 ghost use lib.ListN.{length};
 ghost use Rattle.image.specs.Chip.{chip};
 ghost use Rattle.image.specs.Image.{saved, saveOf};
@@ -22,11 +22,11 @@ pub enum Layout {
     Sets,
 }
 
-// Of what no two are to be alike.
+// What is not to stand twice.
 pub enum Kind {
-    // The lines of a set: valid, with one tag.
+    // A valid line of a set, by its tag.
     Line,
-    // The PATC's entries: valid, with one page and space.
+    // A valid PATC entry, by its page and space.
     Entry,
 }
 

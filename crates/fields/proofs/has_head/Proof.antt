@@ -1,3 +1,4 @@
+-- `has_head` meets its contract: both tests by what `count_at` ensures.
 use borrow.Author.Needs.{needs}
 use Rattle.fields.proofs.has_head.Statement.{statement}
 use Rattle.fields.proofs.has_head.Tie as tie

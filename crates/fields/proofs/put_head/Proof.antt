@@ -1,3 +1,4 @@
+-- `put_head` meets its contract: three stores are one run.
 use borrow.Author.Needs.{needs}
 use Rattle.fields.proofs.put_head.Statement.{statement}
 use Rattle.fields.specs.Laws.{run3}

@@ -1,3 +1,4 @@
+-- `put_word` meets its contract: four stores are one run.
 use borrow.Author.Needs.{needs}
 use Rattle.fields.proofs.put_word.Statement.{statement}
 use native.Mathlib.Omega.{arith}

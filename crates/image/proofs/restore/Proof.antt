@@ -1,3 +1,4 @@
+-- `restore` meets its contract: a refusal leaves all as it was, and an image that is taken is read whole.
 use mathlib.Core.Path.{_≡_, sym, _∙_}
 use native.Mathlib.Omega.{arith}
 use borrow.Author.Needs.{needs}

@@ -1,3 +1,4 @@
+-- `save` meets its contract: no room, or five fields stored one after the other.
 use mathlib.Core.Path.{_≡_}
 use native.Mathlib.Omega.{arith}
 use borrow.Author.Needs.{needs}

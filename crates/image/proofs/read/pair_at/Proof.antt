@@ -1,3 +1,4 @@
+-- `pair_at` meets its contract: each word by what `word_at` ensures.
 use borrow.Author.Needs.{needs}
 use Rattle.image.proofs.read.pair_at.Statement.{statement}
 use Rattle.image.proofs.read.pair_at.Tie as tie

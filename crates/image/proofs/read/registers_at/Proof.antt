@@ -1,3 +1,4 @@
+-- `registers_at` meets its contract: each word by what `word_at` ensures, the ports by `get_words`.
 use borrow.Author.Needs.{needs}
 use Rattle.image.proofs.read.registers_at.Statement.{statement}
 use Rattle.image.proofs.read.registers_at.Tie as tie

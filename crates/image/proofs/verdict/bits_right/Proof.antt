@@ -1,8 +1,9 @@
+-- `bits_right` meets its contract: a test of the bytes is the test of the words that they hold.
 use borrow.Author.Needs.{needs}
 use Rattle.image.proofs.verdict.bits_right.Statement.{statement}
 use denote.Ref.{now}
 use Rattle.image.specs.declared.Layout.the-variants.{Entries, Sets}
-use Rattle.image.specs.Verdict.{bitsRight}
+use Rattle.image.specs.Tests.{bitsRight}
 use Rattle.image.specs.Laws.{own-bytes, order-bytes}
 use Rattle.image.proofs.verdict.bits_right.Tie as tie
 

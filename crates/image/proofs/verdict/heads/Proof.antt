@@ -1,3 +1,4 @@
+-- `heads` meets its contract: five heads by what `has_head` ensures.
 use borrow.Author.Needs.{needs}
 use Rattle.image.proofs.verdict.heads.Statement.{statement}
 use Rattle.image.specs.Verdict.{headsOf}

@@ -1,7 +1,8 @@
+-- `no_doubles` meets its contract: a test of the bytes is the test of the words that they hold.
 use borrow.Author.Needs.{needs}
 use Rattle.image.proofs.verdict.no_doubles.Statement.{statement}
 use denote.Ref.{now}
-use Rattle.image.specs.Verdict.{noDoubles}
+use Rattle.image.specs.Tests.{noDoubles}
 use Rattle.image.specs.Laws.{sets-bytes, entry-bytes}
 use Rattle.image.proofs.verdict.no_doubles.Tie as tie
 

@@ -3,8 +3,8 @@ use Prim.Native.Nat.{_+_, _*_, _-_, _≤_}
 use mathlib.Core.Path.{_≡_, refl, sym, _∙_}
 use native.Mathlib.Omega.{arith}
 use borrow.Author.Needs.{needs}
-use lib.ListN.{length, drop, drop-of-length-le}
-use lib.Seq.{sets, length-sets}
+use lib.ListN.{length, drop}
+use lib.Seq.{sets}
 use Rattle.fields.specs.Fields.{bytesOf}
 use Rattle.image.specs.Chip.{ownFrom, ownWords}
 use Rattle.image.specs.Laws.{put-none, put-one, put-all}

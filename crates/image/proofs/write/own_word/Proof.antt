@@ -1,3 +1,4 @@
+-- `own_word` meets its contract: each word by its layout and its number.
 use borrow.Author.Needs.{needs}
 use Rattle.image.specs.Chip.{ownWord}
 use Rattle.image.proofs.write.own_word.Statement.{statement}

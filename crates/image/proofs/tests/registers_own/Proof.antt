@@ -1,7 +1,8 @@
+-- `registers_own` meets its contract: each register by what its own bits are.
 use borrow.Author.Needs.{needs}
-use Rattle.image.proofs.verdict.registers_own.Statement.{statement}
-use Rattle.image.specs.Verdict.{registersOwn}
-use Rattle.image.proofs.verdict.registers_own.Tie as tie
+use Rattle.image.proofs.tests.registers_own.Statement.{statement}
+use Rattle.image.specs.Tests.{registersOwn}
+use Rattle.image.proofs.tests.registers_own.Tie as tie
 
 returns : tie.Need-returns
 unfolding registersOwn

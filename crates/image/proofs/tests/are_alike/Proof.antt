@@ -1,7 +1,8 @@
+-- `are_alike` meets its contract: each field by what `bits` and `bit` ensure.
 use borrow.Author.Needs.{needs}
-use Rattle.image.proofs.verdict.are_alike.Statement.{statement}
-use Rattle.image.specs.Verdict.{alike}
-use Rattle.image.proofs.verdict.are_alike.Tie as tie
+use Rattle.image.proofs.tests.are_alike.Statement.{statement}
+use Rattle.image.specs.Tests.{alike}
+use Rattle.image.proofs.tests.are_alike.Tie as tie
 
 returns : tie.Need-returns
 unfolding alike

@@ -1,14 +1,13 @@
 -- The loop's invariant: the test of the words that are left is the test of them all.
-use Prim.Native.Nat.{ℕ, _+_, _-_, _*_, _≤_}
-use mathlib.Core.Path.{_≡_, refl, sym, ap, _∙_}
+use Prim.Native.Nat.{_+_, _-_, _*_, _≤_}
+use mathlib.Core.Path.{_≡_, refl, _∙_}
 use native.Mathlib.Omega.{arith}
-use borrow.Author.Needs.{needs}
 use borrow.Author.Tests.{not-true, not-false}
 use Rattle.fields.specs.Fields.{wordFrom}
-use Rattle.image.specs.Verdict.{apart}
+use Rattle.image.specs.Tests.{apart}
 use Rattle.image.specs.Below.{below-pass, below-fail, below-none, room}
-use Rattle.image.proofs.verdict.all_apart.Statement.{statement}
-use Rattle.image.proofs.verdict.all_apart.Tie as tie
+use Rattle.image.proofs.tests.all_apart.Statement.{statement}
+use Rattle.image.proofs.tests.all_apart.Tie as tie
 
 abbrev Inv-loop : tie.InvT-loop
 Inv-loop kind src at step n j₀ j = (j ≤ n) × (apart kind j (wordFrom src at step) ≡ apart kind n (wordFrom src at step))
@@ -16,21 +15,10 @@ Inv-loop kind src at step n j₀ j = (j ≤ n) × (apart kind j (wordFrom src at
 abbrev μ-loop : tie.MeasureT-loop
 μ-loop kind src at step n j₀ j = j
 
-mul-word-at : tie.Need-mul-word-at Inv-loop μ-loop
-mul-word-at c = let a = c .before .before .before .args in
-    omega (arith, room (a .at) (a .step) (a .n) (c .before .loop .j - 1) (omega arith))
-
-add-word-at : tie.Need-add-word-at Inv-loop μ-loop
-add-word-at c = let a = c .before .before .before .args in
-    omega (arith, room (a .at) (a .step) (a .n) (c .before .loop .j - 1) (omega arith))
-
-word-at-requires : tie.Need-word-at-requires Inv-loop μ-loop
-word-at-requires c κs = let a = c .before .before .before .args in
-    omega (arith, room (a .at) (a .step) (a .n) (c .before .loop .j - 1) (omega arith))
-
-none-like-requires : tie.Need-none-like-requires Inv-loop μ-loop
-none-like-requires c κs = let a = c .before .before .before .before .args in
-    omega (arith, room (a .at) (a .step) (a .n) (c .before .before .loop .j - 1) (omega arith))
+-- the word to be tested has room
+here : (c : tie.In-loop Inv-loop μ-loop) → let a = c .before .before .before .args in
+    a .at + (c .before .loop .j - 1) * a .step + a .step ≤ a .at + a .n * a .step
+here c = let a = c .before .before .before .args in room (a .at) (a .step) (a .n) (c .before .loop .j - 1) (omega arith)
 
 pub all-apart-spec : {M : Type 1} → statement M
 all-apart-spec =
@@ -40,10 +28,10 @@ all-apart-spec =
     μ-loop
     (λ c. (omega arith, refl))
     (λ c. omega arith)
-    mul-word-at
-    add-word-at
-    word-at-requires
-    none-like-requires
+    (λ c. omega (arith, here c))
+    (λ c. omega (arith, here c))
+    (λ c κs. omega (arith, here c))
+    (λ c κs. omega (arith, here (c .before)))
     (λ c.
     let w = c .before .before in
     let l = w .before .before in

@@ -1,16 +1,16 @@
 -- The loop's invariant: the test of the sets that are left is the test of them all.
-use Prim.Native.Nat.{ℕ, _+_, _-_, _*_, _≤_}
-use mathlib.Core.Path.{_≡_, refl, sym, ap, _∙_}
+use Prim.Native.Nat.{_+_, _-_, _*_, _≤_}
+use mathlib.Core.Path.{_≡_, refl, _∙_}
 use native.Mathlib.Omega.{arith}
-use borrow.Author.Needs.{needs}
 use borrow.Author.Tests.{not-true, not-false}
 use denote.Ref.{now}
-use Rattle.fields.specs.Fields.{wordFrom, wordAt}
+use Rattle.fields.specs.Fields.{wordFrom}
 use Rattle.image.specs.declared.Kind.the-variants.{Line}
-use Rattle.image.specs.Verdict.{apart, setsApart}
+use Rattle.image.specs.Tests.{apart, setsApart}
+use Rattle.image.specs.Laws.{set-bytes}
 use Rattle.image.specs.Below.{below-pass, below-fail, below-none}
-use Rattle.image.proofs.verdict.sets_apart.Statement.{statement}
-use Rattle.image.proofs.verdict.sets_apart.Tie as tie
+use Rattle.image.proofs.tests.sets_apart.Statement.{statement}
+use Rattle.image.proofs.tests.sets_apart.Tie as tie
 
 abbrev Inv-loop : tie.InvT-loop
 Inv-loop src at n s₀ s = (s ≤ n) × (setsApart s (wordFrom src at 4) ≡ setsApart n (wordFrom src at 4))
@@ -22,11 +22,9 @@ abbrev μ-loop : tie.MeasureT-loop
 tested : (c : tie.After-all-apart Inv-loop μ-loop) → let l = c .before .before in
     let a = l .before .before .args in
     apart Line 4 (λ i. wordFrom (now (a .src)) (a .at) 4 ((l .loop .s - 1) * 5 + i)) ≡ c .all-apart .result
-tested c =
-    let l = c .before .before in
+tested c = let l = c .before .before in
     let a = l .before .before .args in
-    let e : (i : ℕ) → a .at + ((l .loop .s - 1) * 5 + i) * 4 ≡ a .at + (l .loop .s - 1) * 20 + i * 4 = λ i. omega arith in
-    ap (apart Line 4) (λ k i. wordAt (now (a .src)) (e i k)) ∙ sym (c .all-apart .ensures)
+    rw (c .all-apart .ensures) (set-bytes (now (a .src)) (a .at) (l .loop .s - 1))
 
 pub sets-apart-spec : {M : Type 1} → statement M
 sets-apart-spec =

@@ -1,17 +1,17 @@
 -- The loop's invariant: the test of the words that are left is the test of them all.
 use Prim.Native.Nat.{ℕ, _+_, _-_, _*_, _≤_}
-use mathlib.Core.Path.{_≡_, refl, sym, ap, _∙_}
-use mathlib.Core.Bool.{Bool, true, false, not}
+use mathlib.Core.Path.{_≡_, refl, _∙_}
+use mathlib.Core.Bool.{Bool, not}
 use mathlib.Core.List.{List}
 use native.Mathlib.Omega.{arith}
 use borrow.Author.Needs.{needs}
 use Rattle.order.specs.Laws.{below}
 use Rattle.fields.specs.Fields.{wordFrom}
 use Rattle.image.specs.declared.Kind.{Kind}
-use Rattle.image.specs.Verdict.{alike}
+use Rattle.image.specs.Tests.{alike}
 use Rattle.image.specs.Below.{below-pass, below-fail, below-none, room}
-use Rattle.image.proofs.verdict.none_like.Statement.{statement}
-use Rattle.image.proofs.verdict.none_like.Tie as tie
+use Rattle.image.proofs.tests.none_like.Statement.{statement}
+use Rattle.image.proofs.tests.none_like.Tie as tie
 
 abbrev unlike : Kind → List ℕ → ℕ → ℕ → ℕ → ℕ → Bool
 unlike kind src at step w i = not (alike kind (wordFrom src at step i) w)
@@ -22,17 +22,10 @@ Inv-loop kind src at step n w i₀ i = (i ≤ n) × (below i (unlike kind src at
 abbrev μ-loop : tie.MeasureT-loop
 μ-loop kind src at step n w i₀ i = i
 
-mul-word-at : tie.Need-mul-word-at Inv-loop μ-loop
-mul-word-at c = let a = c .before .before .before .args in
-    omega (arith, room (a .at) (a .step) (a .n) (c .before .loop .i - 1) (omega arith))
-
-add-word-at : tie.Need-add-word-at Inv-loop μ-loop
-add-word-at c = let a = c .before .before .before .args in
-    omega (arith, room (a .at) (a .step) (a .n) (c .before .loop .i - 1) (omega arith))
-
-word-at-requires : tie.Need-word-at-requires Inv-loop μ-loop
-word-at-requires c κs = let a = c .before .before .before .args in
-    omega (arith, room (a .at) (a .step) (a .n) (c .before .loop .i - 1) (omega arith))
+-- the word to be tested has room
+here : (c : tie.In-loop Inv-loop μ-loop) → let a = c .before .before .before .args in
+    a .at + (c .before .loop .i - 1) * a .step + a .step ≤ a .at + a .n * a .step
+here c = let a = c .before .before .before .args in room (a .at) (a .step) (a .n) (c .before .loop .i - 1) (omega arith)
 
 pub none-like-spec : {M : Type 1} → statement M
 none-like-spec =
@@ -42,9 +35,9 @@ none-like-spec =
     μ-loop
     (λ c. (omega arith, refl))
     (λ c. omega arith)
-    mul-word-at
-    add-word-at
-    word-at-requires
+    (λ c. omega (arith, here c))
+    (λ c. omega (arith, here c))
+    (λ c κs. omega (arith, here c))
     (λ c κs. search needs)
     (λ c.
     let w = c .before .before in

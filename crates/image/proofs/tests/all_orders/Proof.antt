@@ -1,5 +1,5 @@
 -- The loop's invariant: the test of the sets that are left is the test of them all.
-use Prim.Native.Nat.{ℕ, _+_, _-_, _*_, _≤_}
+use Prim.Native.Nat.{_+_, _-_, _*_, _≤_}
 use mathlib.Core.Path.{_≡_, refl, sym, ap, _∙_}
 use native.Mathlib.Omega.{arith}
 use borrow.Author.Needs.{needs}
@@ -8,10 +8,10 @@ use Rattle.fields.specs.Fields.{wordFrom}
 use Rattle.state.specs.Own.{ownCode, own-code}
 use Rattle.order.specs.Order.{isOrder}
 use denote.Ref.{now}
-use Rattle.image.specs.Verdict.{allOrders}
+use Rattle.image.specs.Tests.{allOrders}
 use Rattle.image.specs.Below.{below-pass, below-fail, below-none}
-use Rattle.image.proofs.verdict.all_orders.Statement.{statement}
-use Rattle.image.proofs.verdict.all_orders.Tie as tie
+use Rattle.image.proofs.tests.all_orders.Statement.{statement}
+use Rattle.image.proofs.tests.all_orders.Tie as tie
 
 abbrev Inv-loop : tie.InvT-loop
 Inv-loop src at n s₀ s = (s ≤ n) × (allOrders s (wordFrom src at 4) ≡ allOrders n (wordFrom src at 4))

@@ -1,19 +1,14 @@
 -- The loop's invariant: the test of the words that are left is the test of them all.
-use Prim.Native.Nat.{ℕ, _+_, _-_, _*_, _≤_}
-use mathlib.Core.Path.{_≡_, refl, sym, ap, _∙_}
-use mathlib.Core.Bool.{true, false}
+use Prim.Native.Nat.{_-_, _≤_}
+use mathlib.Core.Path.{_≡_, refl, _∙_}
 use native.Mathlib.Omega.{arith}
 use borrow.Author.Needs.{needs}
 use borrow.Author.Tests.{eq-eqb, ne-eqb}
-use denote.Ref.{now}
-use lib.ListN.{length}
-use Rattle.order.specs.Laws.{below}
 use Rattle.fields.specs.Fields.{wordFrom}
-use Rattle.image.specs.Chip.{ownWord}
-use Rattle.image.specs.Verdict.{allOwn, isOwn}
+use Rattle.image.specs.Tests.{allOwn}
 use Rattle.image.specs.Below.{below-pass, below-fail, below-none}
-use Rattle.image.proofs.verdict.all_own.Statement.{statement}
-use Rattle.image.proofs.verdict.all_own.Tie as tie
+use Rattle.image.proofs.tests.all_own.Statement.{statement}
+use Rattle.image.proofs.tests.all_own.Tie as tie
 
 abbrev Inv-loop : tie.InvT-loop
 Inv-loop layout src at n i₀ i = (i ≤ n) × (allOwn layout i (wordFrom src at 4) ≡ allOwn layout n (wordFrom src at 4))
