@@ -1,0 +1,10 @@
+pub mod Chip
+pub mod Image
+pub mod Tests
+pub mod Verdict
+pub mod WellFormed
+pub mod Below
+pub mod Own
+pub mod Laws
+pub mod Sound
+pub mod Trips
