@@ -1,5 +1,6 @@
 -- The numbers of an outcome, and the fault pair that a fault leaves.
 use Prim.Native.Nat.{ℕ, _*_}
+use Rattle.words.specs.Words.{bitsOf}
 use Rattle.state.specs.declared.Fault.{Fault}
 use Rattle.state.specs.declared.FaultPair.{FaultPair}
 use Rattle.state.specs.declared.Outcome.{Outcome}
@@ -28,7 +29,7 @@ placeOf (Failed f) = f .address
 
 -- PFSR: code in bits 18-16
 abbrev pub statusOf : ℕ → ℕ
-statusOf code = code * 65536
+statusOf code = bitsOf code 2 0 * 65536
 
 abbrev pub pairOf : Fault → FaultPair
 pairOf f = record { status = statusOf (f .code); address = f .address }

@@ -2,7 +2,6 @@
 pub mod own;
 
 ghost use mathlib.Core.Path.{_≡_};
-ghost use Prim.Native.Nat.{_<_, _*_};
 ghost use Rattle.state.specs.Reset.{resetOf, noFault};
 ghost use Rattle.state.specs.Outcome.{caseOf, valueOf, placeOf, statusOf, pairOf};
 
@@ -98,15 +97,13 @@ pub fn no_fault() -> FaultPair
 
 // PFSR for a fault's code, which stands in bits 18-16.
 pub fn status(code: u32) -> u32
-    requires { ⌜ code < 8 ⌝ }
     ensures { λ r. ⌜ r ≡ statusOf code ⌝ }
 {
-    code * 65536
+    words::bits(code, 2, 0) * 65536
 }
 
 // The pair that a fault leaves.
 pub fn pair(fault: Fault) -> FaultPair
-    requires { ⌜ fault .code < 8 ⌝ }
     ensures { λ r. ⌜ r ≡ pairOf fault ⌝ }
 {
     FaultPair {

@@ -1,0 +1,46 @@
+-- The world of a unit that is alone on its memory: RAM and ROM.
+use Prim.Native.Nat.{ℕ}
+use mathlib.Core.List.{List}
+use Rattle.words.specs.Words.{pick}
+use Rattle.memory.specs.Memory.{Wrote, partOf, shownOf, readOf, writeWordOf, writeLineOf}
+use Rattle.flight.specs.declared.course.Course.{Course}
+use Rattle.flight.specs.declared.course.Flight.{Flight}
+use Rattle.flight.specs.Cache.{wordOf}
+use Rattle.flight.specs.Ops.{Ops, Sent}
+
+pub record Memory : Type 0 where
+  pub ram : List ℕ
+  pub rom : List ℕ
+
+abbrev pub memory : List ℕ → List ℕ → Memory
+memory ram rom = record { ram = ram; rom = rom }
+
+abbrev pub sentOf : Memory → Wrote → Sent Memory
+sentOf m x = record { moved = x .moved; world = memory (x .ram) (m .rom) }
+
+abbrev pub alone : Ops Memory
+alone =
+    record {
+      readWord = λ m t. record { read = readOf (m .ram) (m .rom) (t .address); world = m };
+      readLine = λ m t. record { moved = shownOf (partOf (m .ram) (m .rom) (t .address)) (t .address); part = partOf (m .ram) (m .rom) (t .address); world = m };
+      writeWord = λ m t enables word. sentOf m (writeWordOf (m .ram) (t .address) enables word);
+      writeLine = λ m t part. sentOf m (writeLineOf (m .ram) (t .address) part);
+    }
+
+-- a flight with RAM
+pub record FlownTo : Type 0 where
+  pub flight : Flight
+  pub ram : List ℕ
+
+abbrev pub flownTo : Flight → List ℕ → FlownTo
+flownTo f ram = record { flight = f; ram = ram }
+
+abbrev pub sentBy : Course → Wrote → FlownTo
+sentBy c x = flownTo (wordOf c (x .moved) 0) (x .ram)
+
+-- the single word, written or read
+unfoldable pub singleBy : Course → List ℕ → List ℕ → FlownTo
+singleBy c ram rom =
+    pick (c .access .write)
+    (sentBy c (writeWordOf ram (c .want .address) (c .access .enables) (c .access .word)))
+    (flownTo (wordOf c (readOf ram rom (c .want .address) .moved) (readOf ram rom (c .want .address) .word)) ram)

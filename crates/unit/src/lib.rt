@@ -1,0 +1,2 @@
+// One unit on its memory: the driver, register calls, commands, snoops and reset.
+pub mod driver;
