@@ -12,6 +12,12 @@ pub struct Stored {
     pub words: u32,
 }
 
+// Registers after a command, and the words that it moved.
+pub struct Ran {
+    pub registers: Registers,
+    pub words: u32,
+}
+
 // The area pointer of an access's space.
 pub fn area(u: Registers, supervisor: bool) -> u32
     ensures { λ r. ⌜ r ≡ areaOf u supervisor ⌝ }
