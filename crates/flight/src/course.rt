@@ -44,7 +44,8 @@ pub struct Flight {
     pub course: Course,
 }
 
-fn no_transaction() -> Transaction
+// No transaction: what stands in a place of the list that is not used.
+pub fn no_transaction() -> Transaction
     ensures { λ r. ⌜ r ≡ noTransaction ⌝ }
 {
     Transaction {

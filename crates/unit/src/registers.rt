@@ -53,7 +53,7 @@ pub fn store(registers: Registers, pair: FaultPair, words: u32) -> Stored
     }
 }
 
-fn with_ssr(u: Registers, value: u32) -> Registers
+pub fn with_ssr(u: Registers, value: u32) -> Registers
     ensures { λ r. ⌜ r ≡ withSsr u value ⌝ }
 {
     let mut v = u;

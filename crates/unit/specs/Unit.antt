@@ -1,0 +1,130 @@
+-- One unit on its memory, call by call: a register write, an access, a snoop.
+use Prim.Native.Nat.{ℕ, _+_, _%_}
+use mathlib.Core.Bool.{Bool, true, false, _&&_}
+use mathlib.Core.List.{List}
+use lib.Dec.{eqb, leb}
+use Rattle.words.specs.Words.{pick, bitsOf, bitOf}
+use Rattle.state.specs.declared.Access.{Access}
+use Rattle.state.specs.declared.Registers.{Registers}
+use Rattle.state.specs.declared.FaultPair.{FaultPair}
+use Rattle.state.specs.declared.Outcome.the-variants.{Idle, Word}
+use Rattle.state.specs.Own.{ownScr, ownSsr}
+use Rattle.flight.specs.Steps.{Scene, Ended, accessOf as stepsOf, opening}
+use Rattle.flush.specs.declared.snoop.Snooped.{Snooped}
+use Rattle.flush.specs.declared.snoop.Snooped.the-variants.{Clear, Retry, Failed}
+use Rattle.flush.specs.Snoop.{Snoop, snoopOf as lineSnoop}
+use Rattle.unit.specs.declared.answers.Accessed.{Accessed}
+use Rattle.unit.specs.declared.registers.Stored.{Stored}
+use Rattle.unit.specs.declared.Watched.{Watched}
+use Rattle.unit.specs.Alone.{Memory, memory, alone}
+use Rattle.unit.specs.Registers.{areaOf, readOf, storedOf, setOf, withScr, withSsr, withPointer}
+use Rattle.unit.specs.Commands.{Commanded, commandOf, runOf}
+use Rattle.unit.specs.Answers.{totalOf, faultOf, accessed, answerOf, plainOf, failedOf, writtenOf}
+
+-- ---- a register write
+
+-- registers, fault pair and words; entries, directory and RAM
+pub record Kept : Type 0 where
+  pub stored : Stored
+  pub patc : List ℕ
+  pub lines : List ℕ
+  pub ram : List ℕ
+
+abbrev pub kept : Stored → List ℕ → List ℕ → List ℕ → Kept
+kept s ps ls ram = record { stored = s; patc = ps; lines = ls; ram = ram }
+
+abbrev pub ranBy : FaultPair → Commanded → Kept
+ranBy p c = kept (storedOf (c .ran .registers) p (c .ran .words)) (c .patc) (c .lines) (c .ram)
+
+-- writing SCR runs bits 5-0
+unfoldable pub writeOf : Registers → FaultPair → List ℕ → List ℕ → List ℕ → List ℕ → List ℕ → ℕ → ℕ → Kept
+writeOf u p ps ls cs ram rom offset value =
+    pick (eqb offset 4)
+    (ranBy p (runOf (withScr u (ownScr value)) (commandOf (withScr u (ownScr value) .scr)) ps ls cs ram rom))
+    (kept (setOf u p offset value) ps ls ram)
+
+-- ---- control space
+
+pub record Controlled : Type 0 where
+  pub accessed : Accessed
+  pub patc : List ℕ
+  pub lines : List ℕ
+  pub ram : List ℕ
+
+abbrev pub controlled : Accessed → List ℕ → List ℕ → List ℕ → Controlled
+controlled a ps ls ram = record { accessed = a; patc = ps; lines = ls; ram = ram }
+
+-- with enables 15 and bits 19-12 equal to the unit's number it reaches its registers
+abbrev pub reachesOf : Registers → Access → Bool
+reachesOf u a = eqb (a .enables) 15 && eqb (bitsOf (a .address) 19 12) (bitsOf (u .idr) 31 24)
+
+abbrev pub writtenBy : Kept → Controlled
+writtenBy k = controlled (writtenOf (k .stored)) (k .patc) (k .lines) (k .ram)
+
+-- .. otherwise bus error. It lists no transaction and moves no word but a command's
+unfoldable pub controlOf : Registers → FaultPair → List ℕ → List ℕ → List ℕ → List ℕ → List ℕ → Access → Controlled
+controlOf u p ps ls cs ram rom a =
+    pick (reachesOf u a)
+    (pick (a .write)
+    (writtenBy (writeOf u p ps ls cs ram rom (bitsOf (a .address) 11 0) (a .word)))
+    (controlled (plainOf u p (Word (readOf u p (bitsOf (a .address) 11 0))) 0) ps ls ram))
+    (controlled (failedOf u (a .address)) ps ls ram)
+
+-- ---- an access
+
+pub record Whole : Type 0 where
+  pub accessed : Accessed
+  pub patc : List ℕ
+  pub lines : List ℕ
+  pub cells : List ℕ
+  pub ram : List ℕ
+
+abbrev pub whole : Accessed → List ℕ → List ℕ → List ℕ → List ℕ → Whole
+whole a ps ls cs ram = record { accessed = a; patc = ps; lines = ls; cells = cs; ram = ram }
+
+-- where the big steps end
+abbrev pub endedBy : Registers → FaultPair → Ended Memory → Whole
+endedBy u p e =
+    whole
+    (accessed (withPointer u (e .scene .pointer)) (faultOf p (e .outcome)) (answerOf (e .outcome) (e .scene .list) (e .scene .count) (totalOf (e .scene .list))))
+    (e .scene .patc)
+    (e .scene .lines)
+    (e .scene .cells)
+    (e .scene .world .ram)
+
+unfoldable pub mappedOf : Registers → FaultPair → List ℕ → List ℕ → List ℕ → List ℕ → List ℕ → Access → Whole
+mappedOf u p ps ls cs ram rom a =
+    endedBy u p (stepsOf alone a (areaOf u (a .supervisor)) (opening (u .pointer) ps ls cs (memory ram rom)) (u .ports))
+
+abbrev pub withCells : Controlled → List ℕ → Whole
+withCells c cs = whole (c .accessed) (c .patc) (c .lines) cs (c .ram)
+
+-- 1. enables 0: idle, nothing changes. 2. A supervisor access at FFF00000 or above is control space
+unfoldable pub accessOf : Registers → FaultPair → List ℕ → List ℕ → List ℕ → List ℕ → List ℕ → Access → Whole
+accessOf u p ps ls cs ram rom a =
+    pick (eqb (a .enables) 0)
+    (whole (plainOf u p Idle 0) ps ls cs ram)
+    (pick (a .supervisor && leb 0xFFF00000 (a .address)) (withCells (controlOf u p ps ls cs ram rom a) cs) (mappedOf u p ps ls cs ram rom a))
+
+-- ---- a snoop
+
+-- if the copyback fails, CE is set
+unfoldable pub afterSnoop : Registers → Snooped → Registers
+afterSnoop u Clear = u
+afterSnoop u Retry = u
+afterSnoop u Failed = withSsr u (ownSsr (u .ssr) % 32768 + 32768)
+
+pub record Snooping : Type 0 where
+  pub watched : Watched
+  pub lines : List ℕ
+  pub ram : List ℕ
+
+abbrev pub watched : Watched → List ℕ → List ℕ → Snooping
+watched w ls ram = record { watched = w; lines = ls; ram = ram }
+
+abbrev pub snoopBy : Registers → Snoop → Snooping
+snoopBy u s = watched (record { registers = afterSnoop u (s .answer); answer = s .answer }) (s .lines) (s .ram)
+
+-- a snoop acts if SE and G are set
+unfoldable pub snoopOf : Registers → List ℕ → List ℕ → List ℕ → ℕ → Bool → Bool → Snooping
+snoopOf u ls cs ram address g im = snoopBy u (lineSnoop (bitOf (u .sctr) 14 && g) im address ls cs ram)
