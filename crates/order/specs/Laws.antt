@@ -7,8 +7,9 @@ use native.Mathlib.Nat.{le-of-suc-le-suc, not-suc-le-zero}
 use native.Mathlib.Decide.{ℕ-discrete}
 use lib.Dec.{T, eqb, ltb}
 use borrow.Author.Tests.{ltb-true}
-use mathlib.Core.List.{List, [], _∷_}
-use lib.ListN.{getD}
+use mathlib.Core.List.{List, [], _∷_, _++_}
+use native.Mathlib.Numerals.{add-one}
+use lib.ListN.{length, getD, set, drop}
 use Rattle.words.specs.Words.{pick, bitsOf}
 use Rattle.words.specs.Laws.{and-left, and-right}
 use Rattle.order.specs.Order.{usedOf, earliestOf, isOrder, later, each}
@@ -88,3 +89,20 @@ marked false = refl
 -- a code's own bits are its own
 pub code-again : (w : ℕ) → bitsOf (bitsOf w 5 0) 5 0 ≡ bitsOf w 5 0
 code-again w = omega arith
+
+-- a loop that fills a list from the front by a rule: one more store
+fill-from : (rule : ℕ → ℕ) (n i : ℕ) (d : List ℕ) → n < length d → set (table rule i n ++ drop n d) n (rule (i + n)) ≡ table rule i (suc n) ++ drop (suc n) d
+unfolding table
+fill-from rule n i [] h = absurd (not-suc-le-zero h)
+fill-from rule zero i (x ∷ d) h = let e : i + 0 ≡ i = omega arith in rw e
+fill-from rule (suc n) i (x ∷ d) h =
+    let e : i + suc n ≡ suc i + n = omega arith in
+    ap (λ (l : List ℕ). rule i ∷ l) (rw e (fill-from rule n (suc i) d (le-of-suc-le-suc h)))
+
+pub fill-next : (rule : ℕ → ℕ) (n : ℕ) (d : List ℕ) → n < length d → set (table rule 0 n ++ drop n d) n (rule n) ≡ table rule 0 (n + 1) ++ drop (n + 1) d
+fill-next rule n d h = let e : 0 + n ≡ n = omega arith in rw add-one (rw e at (fill-from rule n 0 d h))
+
+pub length-table : (rule : ℕ → ℕ) (i n : ℕ) → length (table rule i n) ≡ n
+unfolding table
+length-table rule i zero = refl
+length-table rule i (suc n) = ap suc (length-table rule (suc i) n)

@@ -6,3 +6,4 @@ pub mod Commands
 pub mod Answers
 pub mod Unit
 pub mod Mapped
+pub mod Fresh

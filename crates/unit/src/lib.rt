@@ -2,6 +2,7 @@
 pub mod answers;
 pub mod commands;
 pub mod driver;
+pub mod fresh;
 pub mod probe;
 pub mod registers;
 
