@@ -1,12 +1,13 @@
 -- A flush of any set of lines, given by a test of line addresses, and what it comes to place by place.
 use Prim.Native.Nat.{ℕ, zero, suc, _+_, _<_}
 use mathlib.Core.Path.{_≡_, refl}
-use mathlib.Core.Bool.{Bool, true, false, _&&_, and-true}
-use mathlib.Core.List.{List}
+use mathlib.Core.Bool.{Bool, true, false, _&&_, _||_}
+use mathlib.Core.List.{List, [], _∷_}
 use lib.ListN.{set}
 use Rattle.words.specs.Words.{pick}
 use Rattle.memory.specs.Memory.{ramLine, putOf, lineFits}
 use Rattle.lines.specs.Lines.{valid, modified, tagAt, tagWord, lineAddress, withState, lineWords}
+use Rattle.flush.specs.declared.Flushed.{Flushed}
 use Rattle.flush.specs.declared.Kind.{Kind}
 use Rattle.flush.specs.declared.Range.{Range}
 use Rattle.flush.specs.declared.Range.the-variants.{All}
@@ -22,6 +23,13 @@ onwardBy k c cs p s = pick (s .flushed .ok) (added (s .flushed .words) (lineBy k
 unfoldable pub sweepBy : Kind → (ℕ → Bool) → List ℕ → List ℕ → List ℕ → ℕ → Sweep
 sweepBy k c cs ls ram zero = swept (wellOf 0) ls ram
 sweepBy k c cs ls ram (suc n) = onwardBy k c cs n (sweepBy k c cs ls ram n)
+
+-- the whole command: all 1,024 places
+abbrev pub flushBy : Kind → (ℕ → Bool) → List ℕ → List ℕ → List ℕ → Sweep
+flushBy k c cs ls ram = sweepBy k c cs ls ram 1024
+
+abbrev pub flushOf : Kind → Range → ℕ → List ℕ → List ℕ → List ℕ → Sweep
+flushOf k r sar cs ls ram = sweepOf k r sar cs ls ram 1024
 
 -- ---- a range and SAR are such a test
 
@@ -74,3 +82,23 @@ FitsTo n k c ls ram = (p : ℕ) → p < n → isCopied k c p (tagWord ls p) ≡ 
 -- every covered modified line lies in RAM; of a command that copies nothing, nothing is asked
 abbrev pub Fits : Kind → (ℕ → Bool) → List ℕ → List ℕ → Type 0
 Fits k c ls ram = FitsTo 1024 k c ls ram
+
+-- ---- one command after another
+
+-- two answers together: well if both are, the words of both, the first failing address
+abbrev pub together : Flushed → Flushed → Flushed
+together f g = record { ok = f .ok && g .ok; words = f .words + g .words; failing = pick (f .ok) (g .failing) (f .failing) }
+
+-- a command's sweep, and then another's on the lines and RAM that it left
+abbrev pub andThen : Sweep → (List ℕ → List ℕ → Sweep) → Sweep
+andThen x next = swept (together (x .flushed) (next (x .lines) (x .ram) .flushed)) (next (x .lines) (x .ram) .lines) (next (x .lines) (x .ram) .ram)
+
+-- flushes of one kind and size of range, one for each SAR of a list
+unfoldable pub flushEach : Kind → Range → List ℕ → List ℕ → List ℕ → List ℕ → Sweep
+flushEach k r cs [] ls ram = swept (wellOf 0) ls ram
+flushEach k r cs (sar ∷ sars) ls ram = andThen (flushOf k r sar cs ls ram) (flushEach k r cs sars)
+
+-- is an address in the range that one of the SARs names?
+unfoldable pub named : Range → List ℕ → ℕ → Bool
+named r [] address = false
+named r (sar ∷ sars) address = coversOf r sar address || named r sars address
