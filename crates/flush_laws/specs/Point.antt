@@ -161,7 +161,7 @@ invalid-treated : (k : Kind) (w : ℕ) → valid w ≡ false → treated k w ≡
 invalid-treated k w e = rw e
 
 -- a command that drops leaves every covered line invalid
-dropped-invalid : (k : Kind) (w : ℕ) → dropsOf k ≡ true → valid (treated k w) ≡ false
+pub dropped-invalid : (k : Kind) (w : ℕ) → dropsOf k ≡ true → valid (treated k w) ≡ false
 dropped-invalid k w d = go (valid w) refl (copiesOf k && modified w)
   where
     three : valid (withState w 3) ≡ false
@@ -358,16 +358,16 @@ module _ (k : Kind) (c : ℕ → Bool) (ls ram : List ℕ) where
   -- of the first m lines, all that are to be copied lie in RAM, or one is the first that does not
   pub data First (m : ℕ) : Type 0 where
     fit : FitsTo m k c ls ram → First m
-    fails : (n : ℕ) → n < m → StopsAt n → First m
+    stops : (n : ℕ) → n < m → StopsAt n → First m
 
   fits-suc : (m : ℕ) → FitsTo m k c ls ram → (isCopied k c m (tagWord ls m) ≡ true → lineFits ram (lineAddress m (tagWord ls m)) ≡ true) → FitsTo (suc m) k c ls ram
   fits-suc m f g p h = elim (ℕ-discrete p m) [ yes e ↦ rw e g | no e ↦ f p (omega arith) ]
 
   first-suc : (m : ℕ) → First m → (C I : Bool) → isCopied k c m (tagWord ls m) ≡ C → lineFits ram (lineAddress m (tagWord ls m)) ≡ I → First (suc m)
-  first-suc m (fails n h s) C I p q = fails n (omega arith) s
+  first-suc m (stops n h s) C I p q = stops n (omega arith) s
   first-suc m (fit f) false I p q = fit (fits-suc m f (λ e. absurd (true≢false (sym e ∙ p))))
   first-suc m (fit f) true true p q = fit (fits-suc m f (λ e. q))
-  first-suc m (fit f) true false p q = fails m (omega arith) (record { before = f; toCopy = p; outside = q })
+  first-suc m (fit f) true false p q = stops m (omega arith) (record { before = f; toCopy = p; outside = q })
 
   pub first : (m : ℕ) → First m
   first zero = fit (λ p h e. absurd (omega arith))

@@ -4,12 +4,13 @@ use mathlib.Core.Path.{_≡_, refl, sym, ap, _∙_, subst, fun-ext}
 use mathlib.Core.Bool.{Bool, true, false, not, _&&_, _||_, and-false, and-true, or-self, true≢false}
 use mathlib.Core.List.{List, [], _∷_}
 use native.Mathlib.Omega.{arith}
-use native.Mathlib.Decide.{decLt}
+use native.Mathlib.Decide.{decLt, ℕ-discrete}
 use lib.ListN.{length, getD, set}
 use lib.Seq.{ext-getD, set-getD}
 use lib.Dec.{eqb}
-use borrow.Author.Tests.{eqb-true}
+use borrow.Author.Tests.{eqb-true, eq-eqb}
 use Rattle.words.specs.Words.{pick}
+use Rattle.words.specs.Laws.{and-left, and-right}
 use Rattle.lines.specs.Lines.{modified, tagAt, tagWord, lineAddress}
 use Rattle.flush.specs.declared.Flushed.{Flushed}
 use Rattle.flush.specs.declared.Range.{Range}
@@ -17,7 +18,11 @@ use Rattle.flush.specs.declared.Kind.{Kind}
 use Rattle.flush.specs.declared.Kind.the-variants.{Invalidate, CopyBack, Both}
 use Rattle.flush.specs.Flush.{coversOf, copiesOf, wellOf, stoppedOf, Sweep, swept}
 use Rattle.flush_laws.specs.Sweep.{sweepBy, flushBy, after, isCopied, linesTo, ramTo, countTo, FitsTo, Fits, together, andThen, flushEach, named, sweep-by}
-use Rattle.flush_laws.specs.Point.{after-address, after-modified, after-union, after-both, _∪_, length-linesTo, linesTo-code, linesTo-later, linesTo-done, lines-ext, hits, newest, length-ramTo, ramTo-at, sweep-runs, StopsAt, First, fit, fails, first, sweep-stops}
+use Rattle.flush_laws.specs.Point.{after-address, after-modified, after-union, after-both, _∪_, length-linesTo, linesTo-code, linesTo-later, linesTo-done, lines-ext, hits, newest, length-ramTo, ramTo-at, sweep-runs, StopsAt, First, fit, stops, first, sweep-stops}
+
+pub fails : (b : Bool) → (b ≡ true → ⊥) → b ≡ false
+fails true f = absurd (f refl)
+fails false f = refl
 
 -- ---- the newest word
 
@@ -32,6 +37,24 @@ module _ (d cs : List ℕ) (a v : ℕ) where
   unfolding newest
   newest-none zero f = refl
   newest-none (suc n) f = rw (f n (omega arith)) (newest-none n (λ p h. f p (omega arith)))
+
+  newest-hit : (p : ℕ) → hits d a p ≡ true → (n : ℕ) → p < n → ((q : ℕ) → q < n → hits d a q ≡ true → q ≡ p) → newest d cs a v n ≡ getD cs (p * 4 + a % 4) 0
+  unfolding newest
+  newest-hit p e zero h f = absurd (omega arith)
+  newest-hit p e (suc n) h f = elim (ℕ-discrete n p) [
+    | yes q ↦ rw (q, e)
+    | no q ↦ rw (fails (hits d a n) (λ t. q (f n (omega arith) t))) (newest-hit p e n (omega arith) (λ r l. f r (omega arith)))
+  ]
+
+-- ---- a word that is copied, where no later line is copied onto it
+
+module _ (k : Kind) (c : ℕ → Bool) (cs ls ram : List ℕ) {n : ℕ} (f : FitsTo n k c ls ram) (p a : ℕ) (h : p < n) (same : a / 4 * 16 ≡ lineAddress p (tagWord ls p)) where
+  pub copied-word : isCopied k c p (tagWord ls p) ≡ true → ((q : ℕ) → q < n → hits ls a q ≡ true → q ≡ p) → getD (ramTo k c cs ls ram n) a 0 ≡ getD cs (p * 4 + a % 4) 0
+  unfolding isCopied
+  copied-word e alone =
+      let covered : c (a / 4 * 16) ≡ true = ap c same ∙ and-left _ _ (and-right (copiesOf k) _ e) in
+      let hit : hits ls a p ≡ true = rw (and-right (c (lineAddress p (tagWord ls p))) _ (and-right (copiesOf k) _ e), eq-eqb _ _ same) in
+      ramTo-at k c cs ls ram f n a (omega arith) ∙ rw (and-left (copiesOf k) _ e, covered) (newest-hit ls cs a _ p hit n h alone)
 
 -- ---- tests: K the command copies; A, B the line is in the first set, in the second; M it is modified
 
@@ -250,7 +273,7 @@ module _ (k : Kind) (c : ℕ → Bool) (cs ls ram : List ℕ) (size : length ls 
       go (fit f) = subst Again (sym (runs k c cs ls ram f)) (
           runs k c cs _ _ (again-fits 1024 whole k c cs ls ram size f)
           ∙ same-sweep _ _ _ _ _ _ (omega (arith, again-count 1024 whole k c cs ls ram size f)) (again-lines 1024 whole k c cs ls ram size f) (again-ram 1024 whole k c cs ls ram size f))
-      go (fails n h s) = subst Again (sym (sweep-stops k c cs ls ram n s 1024 h)) (
+      go (stops n h s) = subst Again (sym (sweep-stops k c cs ls ram n s 1024 h)) (
           sweep-stops k c cs _ _ n (again-stops n (omega arith) k c cs ls ram size (s .before) s) 1024 h
           ∙ rw (again-count n (omega arith) k c cs ls ram size (s .before), linesTo-later k c ls n n (omega arith), again-lines n (omega arith) k c cs ls ram size (s .before), again-ram n (omega arith) k c cs ls ram size (s .before)))
 
