@@ -52,7 +52,7 @@ line-parts a t s ht hs e =
 hit-address : (ls : List ℕ) (address q : ℕ) → address < 4294967296 → Hit ls address q → address / 16 * 16 ≡ lineAddress q (tagWord ls q)
 hit-address ls address q physical h = rw (h .hasTag, h .inSet) (omega arith)
 
-hit-place : (ls : List ℕ) (address q : ℕ) → address < 4294967296 → Hit ls address q → ramPlace address / 4 * 16 ≡ lineAddress q (tagWord ls q)
+pub hit-place : (ls : List ℕ) (address q : ℕ) → address < 4294967296 → Hit ls address q → ramPlace address / 4 * 16 ≡ lineAddress q (tagWord ls q)
 hit-place ls address q physical h = rw (h .hasTag, h .inSet) (omega arith)
 
 matches-hit : (ls : List ℕ) (address q : ℕ) → q < 1024 → q / 4 ≡ setOf address → matches (tagWord ls q) (tagOf address) ≡ true → Hit ls address q
@@ -64,7 +64,7 @@ unfolding matches
 matches-invalid w tag e = rw e
 
 -- a modified line that has the word at a's place of RAM is a hit
-hits-hit : (ls : List ℕ) (address p : ℕ) → p < 1024 → hits ls (address / 4) p ≡ true → Hit ls address p
+pub hits-hit : (ls : List ℕ) (address p : ℕ) → p < 1024 → hits ls (address / 4) p ≡ true → Hit ls address p
 hits-hit ls address p h e =
     let m : stateOf (tagWord ls p) ≡ 1 = eqb-true _ 1 (and-left (modified (tagWord ls p)) _ e) in
     let q : address / 4 / 4 * 16 ≡ lineAddress p (tagWord ls p) = eqb-true _ _ (and-right (modified (tagWord ls p)) _ e) in

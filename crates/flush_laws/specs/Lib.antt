@@ -1,5 +1,6 @@
 pub mod Sweep
 pub mod Point
 pub mod Union
-pub mod Held
 pub mod Ranges
+pub mod Held
+pub mod Laws

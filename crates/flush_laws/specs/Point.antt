@@ -12,7 +12,7 @@ use lib.Seq.{getD-set-same, getD-set-other, ext-getD, set-getD, getD-take, getD-
 use lib.Dec.{leb, eqb}
 use borrow.Author.Tests.{eqb-true, eqb-false, leb-true, leb-false, eq-eqb, ne-eqb, le-leb, lt-leb, not-false}
 use Rattle.words.specs.Words.{pick}
-use Rattle.words.specs.Laws.{either}
+use Rattle.words.specs.Laws.{either, and-left, and-right}
 use Rattle.memory.specs.Memory.{ramLine, putOf, lineFits, writeLineOf}
 use Rattle.lines.specs.Lines.{tagOf, tagAt, stateOf, valid, modified, tagWord, lineAddress, withState, marked, lineWords}
 use Rattle.lines.specs.Laws.{state-keeps-tag, state-set, below4}
@@ -121,14 +121,14 @@ module _ (k : Kind) (c : ℕ → Bool) (cs : List ℕ) (p : ℕ) (ls ram : List 
 
 -- ---- a tag word afterwards
 
+after-small : (k : Kind) → afterOf k < 4
+after-small Invalidate = omega arith
+after-small CopyBack = omega arith
+after-small Both = omega arith
+
 -- what holds of a covered word as it was and in any state holds of the word afterwards
 treated-either : (P : ℕ → Type 0) (k : Kind) (w : ℕ) → P w → ((s : ℕ) → s < 4 → P (withState w s)) → P (treated k w)
 treated-either P k w same set = either P (valid w) (λ _. either P (copiesOf k && modified w) (λ _. set _ (after-small k)) (λ _. either P (dropsOf k) (λ _. set 3 (omega arith)) (λ _. same))) (λ _. same)
-  where
-    after-small : (k : Kind) → afterOf k < 4
-    after-small Invalidate = omega arith
-    after-small CopyBack = omega arith
-    after-small Both = omega arith
 
 -- the tag stays
 treated-tag : (k : Kind) (w : ℕ) → tagOf (treated k w) ≡ tagOf w
@@ -244,6 +244,33 @@ after-uncovered k c p w e = rw e
 pub after-covered : (k : Kind) (c : ℕ → Bool) (p w : ℕ) → c (lineAddress p w) ≡ true → after k c p w ≡ treated k w
 unfolding after
 after-covered k c p w e = rw e
+
+-- a copied line's state
+pub after-copied : (k : Kind) (c : ℕ → Bool) (p w : ℕ) → isCopied k c p w ≡ true → stateOf (after k c p w) ≡ afterOf k
+unfolding after isCopied
+after-copied k c p w e =
+    let m : modified w ≡ true = and-right (c (lineAddress p w)) _ (and-right (copiesOf k) _ e) in
+    let s : stateOf w ≡ 1 = eqb-true _ _ m in
+    rw (and-left (c (lineAddress p w)) _ (and-right (copiesOf k) _ e), ne-eqb (stateOf w) 3 (omega arith), and-left (copiesOf k) _ e, m) (state-set w (afterOf k) (after-small k))
+
+-- a covered line is not valid after a command that drops
+pub after-dropped : (k : Kind) (c : ℕ → Bool) (p w : ℕ) → dropsOf k ≡ true → (valid (after k c p w) && c (lineAddress p w)) ≡ false
+unfolding after
+after-dropped k c p w d = go (c (lineAddress p w))
+  where
+    go : (b : Bool) → (valid (pick b (treated k w) w) && b) ≡ false
+    go true = rw (dropped-invalid k w d)
+    go false = and-false (valid w)
+
+-- an invalid or uncovered line stays
+pub after-other : (k : Kind) (c : ℕ → Bool) (p w : ℕ) → (valid w && c (lineAddress p w)) ≡ false → after k c p w ≡ w
+unfolding after
+after-other k c p w e = go (valid w) refl (c (lineAddress p w)) e
+  where
+    go : (L : Bool) → valid w ≡ L → (C : Bool) → (valid w && C) ≡ false → pick C (treated k w) w ≡ w
+    go L l false q = refl
+    go false l true q = invalid-treated k w l
+    go true l true q = absurd (true≢false (sym (rw l) ∙ q))
 
 -- ---- the directory after the first n places
 

@@ -5,6 +5,7 @@ use mathlib.Core.Bool.{Bool, true, false, _&&_, _||_, or-comm, or-assoc, Bool-se
 use mathlib.Core.Logic.{∥∥₁-elim}
 use mathlib.Core.List.{List, [], _∷_, Perm, List·Permᴰ, List·Permᴰ·nil, List·Permᴰ·cons, List·Permᴰ·swap, List·Permᴰ·trans}
 use native.Mathlib.Omega.{arith}
+use native.Mathlib.Nat.{div-mul-le-self, lt-div-mul-add, div-eq-of-lt-le}
 use native.Mathlib.Decide.{ℕ-discrete}
 use lib.Dec.{eqb, leb, ltb}
 use borrow.Author.Tests.{eqb-true, eqb-false, eq-eqb, ne-eqb, leb-true, ltb-true, le-leb, lt-ltb}
@@ -34,6 +35,14 @@ pagesOf sar = startsOf 4096 (bitsOf sar 31 22 * 1024) 1024
 abbrev pub segmentsOf : List ℕ
 segmentsOf = startsOf 4194304 0 1024
 
+-- ---- a range has an address just where it has that address's line
+
+pub covers-line : (r : Range) (sar address : ℕ) → coversOf r sar (address / 16 * 16) ≡ coversOf r sar address
+covers-line Line sar a = ap (λ (x : ℕ). eqb x (bitsOf sar 31 4)) (omega arith)
+covers-line Page sar a = ap (λ (x : ℕ). eqb x (bitsOf sar 31 12)) (omega arith)
+covers-line Segment sar a = ap (λ (x : ℕ). eqb x (bitsOf sar 31 22)) (omega arith)
+covers-line All sar a = refl
+
 -- ---- the order does not matter
 
 perm-named : (r : Range) (address : ℕ) {ss ts : List ℕ} → List·Permᴰ ss ts → named r ss address ≡ named r ts address
@@ -48,8 +57,8 @@ perm-named r address (List·Permᴰ·swap {a = a} {b = b} {l = l} e f) = rw (←
     swapped false y z = refl
 perm-named r address (List·Permᴰ·trans d e) = perm-named r address d ∙ perm-named r address e
 
-pub in-any-order : (part whole : Range) (sar : ℕ) (ss ts : List ℕ) → Perm ss ts → Names part whole sar ts → Names part whole sar ss
-in-any-order part whole sar ss ts perm names address = ∥∥₁-elim perm (Bool-set _ _) (λ d. perm-named part address d ∙ names address)
+any-order : (part whole : Range) (sar : ℕ) (ss ts : List ℕ) → Names part whole sar ts → Perm ss ts → Names part whole sar ss
+any-order part whole sar ss ts names perm address = ∥∥₁-elim perm (Bool-set _ _) (λ d. perm-named part address d ∙ names address)
 
 -- ---- a run of parts
 
@@ -85,27 +94,25 @@ module _ (r : Range) (size m : ℕ) (number : ℕ → ℕ) (by-number : (s a : �
   run-named v zero a h = same-test _ _ (λ e. absurd (true≢false (sym e))) (λ e. absurd (omega (arith, within-true v 0 (number a) e)))
   run-named v (suc n) a h = rw (by-number, of-start v (omega arith), run-named (suc v) n a (omega arith)) (within-suc v n (number a))
 
-in-1024 : (w x y : ℕ) → x / 1024 ≡ y → within (w * 1024) 1024 x ≡ eqb y w
-in-1024 w x y e = same-test _ _
-    (λ t. eq-eqb y w (omega (arith, within-true (w * 1024) 1024 x t)))
-    (λ t. true-within (w * 1024) 1024 x (omega (arith, eqb-true y w t)) (omega (arith, eqb-true y w t)))
+-- the m parts of the whole whose number is w
+whole-parts : (m w x y : ℕ) → 0 < m → x / m ≡ y → within (w * m) m x ≡ eqb y w
+whole-parts m w x y pos e = same-test _ _
+    (λ t. eq-eqb y w (sym e ∙ div-eq-of-lt-le m (within-true (w * m) m x t .0) (omega (arith, within-true (w * m) m x t .1))))
+    (λ t. let q : x / m ≡ w = e ∙ eqb-true y w t in true-within (w * m) m x (rw q at (div-mul-le-self x m)) (rw q at (lt-div-mul-add {a = x} pos)))
 
-in-256 : (w x y : ℕ) → x / 256 ≡ y → within (w * 256) 256 x ≡ eqb y w
-in-256 w x y e = same-test _ _
-    (λ t. eq-eqb y w (omega (arith, within-true (w * 256) 256 x t)))
-    (λ t. true-within (w * 256) 256 x (omega (arith, eqb-true y w t)) (omega (arith, eqb-true y w t)))
+-- ---- the parts of each range, in any order
 
-pub pages-named : (sar : ℕ) → Names Page Segment sar (pagesOf sar)
-pages-named sar a =
+pub pages-named : (sar : ℕ) (sars : List ℕ) → Perm sars (pagesOf sar) → Names Page Segment sar sars
+pages-named sar sars = any-order Page Segment sar sars (pagesOf sar) λ a.
     run-named Page 4096 1048576 (λ x. bitsOf x 31 12) (λ s x. refl) (λ v h. omega arith) (bitsOf sar 31 22 * 1024) 1024 a (omega arith)
-    ∙ in-1024 (bitsOf sar 31 22) (bitsOf a 31 12) (bitsOf a 31 22) (omega arith)
+    ∙ whole-parts 1024 (bitsOf sar 31 22) (bitsOf a 31 12) (bitsOf a 31 22) (omega arith) (omega arith)
 
-pub lines-named : (sar : ℕ) → Names Line Page sar (linesOf sar)
-lines-named sar a =
+pub lines-named : (sar : ℕ) (sars : List ℕ) → Perm sars (linesOf sar) → Names Line Page sar sars
+lines-named sar sars = any-order Line Page sar sars (linesOf sar) λ a.
     run-named Line 16 268435456 (λ x. bitsOf x 31 4) (λ s x. refl) (λ v h. omega arith) (bitsOf sar 31 12 * 256) 256 a (omega arith)
-    ∙ in-256 (bitsOf sar 31 12) (bitsOf a 31 4) (bitsOf a 31 12) (omega arith)
+    ∙ whole-parts 256 (bitsOf sar 31 12) (bitsOf a 31 4) (bitsOf a 31 12) (omega arith) (omega arith)
 
-pub segments-named : (sar : ℕ) → Names Segment All sar segmentsOf
-segments-named sar a =
+pub segments-named : (sar : ℕ) (sars : List ℕ) → Perm sars segmentsOf → Names Segment All sar sars
+segments-named sar sars = any-order Segment All sar sars segmentsOf λ a.
     run-named Segment 4194304 1024 (λ x. bitsOf x 31 22) (λ s x. refl) (λ v h. omega arith) 0 1024 a (omega arith)
     ∙ true-within 0 1024 (bitsOf a 31 22) (omega arith) (omega arith)

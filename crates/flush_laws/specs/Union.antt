@@ -1,6 +1,7 @@
 -- Two flushes of one kind are the flush of the union: the one lemma from which the laws of ranges follow.
 use Prim.Native.Nat.{ℕ, zero, suc, _+_, _*_, _/_, _%_, _≤_, _<_}
 use mathlib.Core.Path.{_≡_, refl, sym, ap, _∙_, subst, fun-ext}
+use mathlib.Core.Logic.{_≢_}
 use mathlib.Core.Bool.{Bool, true, false, not, _&&_, _||_, and-false, and-true, or-self, true≢false}
 use mathlib.Core.List.{List, [], _∷_}
 use native.Mathlib.Omega.{arith}
@@ -55,6 +56,19 @@ module _ (k : Kind) (c : ℕ → Bool) (cs ls ram : List ℕ) {n : ℕ} (f : Fit
       let covered : c (a / 4 * 16) ≡ true = ap c same ∙ and-left _ _ (and-right (copiesOf k) _ e) in
       let hit : hits ls a p ≡ true = rw (and-right (c (lineAddress p (tagWord ls p))) _ (and-right (copiesOf k) _ e), eq-eqb _ _ same) in
       ramTo-at k c cs ls ram f n a (omega arith) ∙ rw (and-left (copiesOf k) _ e, covered) (newest-hit ls cs a _ p hit n h alone)
+
+-- .. and one of no copied line
+pub kept-word : (k : Kind) (c : ℕ → Bool) (cs ls ram : List ℕ) {n : ℕ} → FitsTo n k c ls ram → (a : ℕ)
+    → ((p : ℕ) → p < n → isCopied k c p (tagWord ls p) ≡ true → a / 4 * 16 ≢ lineAddress p (tagWord ls p)) → getD (ramTo k c cs ls ram n) a 0 ≡ getD ram a 0
+unfolding isCopied
+kept-word k c cs ls ram {n} f a g = ramTo-at k c cs ls ram f n a (omega arith) ∙ go (copiesOf k) (c (a / 4 * 16)) refl refl
+  where
+    go : (K C : Bool) → copiesOf k ≡ K → c (a / 4 * 16) ≡ C → pick (K && C) (newest ls cs a (getD ram a 0) n) (getD ram a 0) ≡ getD ram a 0
+    go false C x y = refl
+    go true false x y = refl
+    go true true x y = newest-none ls cs a (getD ram a 0) n λ p h. fails _ λ e.
+        let same : a / 4 * 16 ≡ lineAddress p (tagWord ls p) = eqb-true _ _ (and-right (modified (tagWord ls p)) _ e) in
+        g p h (rw (x, ap c (sym same) ∙ y) (and-left (modified (tagWord ls p)) _ e)) same
 
 -- ---- tests: K the command copies; A, B the line is in the first set, in the second; M it is modified
 
@@ -167,6 +181,27 @@ whole = omega arith
 module _ (k : Kind) (c : ℕ → Bool) (cs ls ram : List ℕ) (f : Fits k c ls ram) where
   pub runs : flushBy k c cs ls ram ≡ swept (wellOf (4 * countTo k c ls 1024)) (linesTo k c ls 1024) (ramTo k c cs ls ram 1024)
   runs = sweep-runs k c cs ls ram f 1024 whole
+
+-- how far a command comes, whether or not it stops: its lines and RAM are those after n places
+pub record Reach (k : Kind) (c : ℕ → Bool) (cs ls ram : List ℕ) (x : Sweep) : Type 0 where
+  pub n : ℕ
+  pub small : n ≤ 1024
+  pub fits : FitsTo n k c ls ram
+  pub has-lines : x .lines ≡ linesTo k c ls n
+  pub has-ram : x .ram ≡ ramTo k c cs ls ram n
+
+pub reach : (k : Kind) (c : ℕ → Bool) (cs ls ram : List ℕ) → Reach k c cs ls ram (flushBy k c cs ls ram)
+reach k c cs ls ram = go (first k c ls ram 1024)
+  where
+    go : First k c ls ram 1024 → Reach k c cs ls ram (flushBy k c cs ls ram)
+    go (fit f) = record { n = 1024; small = whole; fits = f; has-lines = rw (runs k c cs ls ram f); has-ram = rw (runs k c cs ls ram f) }
+    go (stops n h s) = record {
+      n = n;
+      small = omega arith;
+      fits = s .before;
+      has-lines = rw (sweep-stops k c cs ls ram n s 1024 h);
+      has-ram = rw (sweep-stops k c cs ls ram n s 1024 h);
+    }
 
 pub then-well : (x : Sweep) (next : List ℕ → List ℕ → Sweep) (a b : ℕ) (l r m s : List ℕ)
     → x ≡ swept (wellOf a) l r → next l r ≡ swept (wellOf b) m s → andThen x next ≡ swept (wellOf (a + b)) m s
