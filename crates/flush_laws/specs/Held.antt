@@ -1,26 +1,24 @@
 -- The word held for a physical address, and that a flush of the first n places leaves it.
-use Prim.Native.Nat.{ℕ, zero, suc, _+_, _*_, _/_, _%_, _≤_, _<_}
-use mathlib.Core.Path.{_≡_, refl, sym, ap, _∙_, subst}
-use mathlib.Core.Logic.{_≢_}
-use mathlib.Core.Bool.{Bool, true, false, not, _&&_, and-false, true≢false}
+use Prim.Native.Nat.{ℕ, _+_, _*_, _/_, _%_, _≤_, _<_}
+use mathlib.Core.Path.{_≡_, refl, sym, ap, _∙_}
+use mathlib.Core.Bool.{Bool, true, false, not, _&&_, true≢false}
 use mathlib.Core.Option.{Option, none, some}
 use mathlib.Core.List.{List}
 use native.Mathlib.Omega.{arith}
-use native.Mathlib.Nat.{add-zero}
-use native.Mathlib.Decide.{decLt, ℕ-discrete}
+use native.Mathlib.Decide.{decLt}
 use lib.ListN.{length, getD}
-use lib.Dec.{eqb, ltb}
-use borrow.Author.Tests.{eqb-true, eqb-false, eq-eqb, ne-eqb, ltb-true, lt-ltb, le-ltb, leb-true, not-true}
+use lib.Dec.{ltb}
+use borrow.Author.Tests.{eqb-true, eq-eqb, ne-eqb, lt-ltb, le-ltb, leb-true}
 use Rattle.words.specs.Words.{pick}
-use Rattle.words.specs.Laws.{either, and-left, and-right}
-use Rattle.memory.specs.Memory.{ramPlace, ramLine, readOf, inRom, romWord}
-use Rattle.lines.specs.Lines.{setOf, tagOf, stateOf, valid, modified, matches, tagWord, lineAddress, lowest, hitOf, wordAt}
+use Rattle.words.specs.Laws.{and-left, and-right}
+use Rattle.memory.specs.Memory.{ramPlace, ramLine, readOf}
+use Rattle.lines.specs.Lines.{setOf, tagOf, stateOf, valid, modified, matches, tagWord, lineAddress, hitOf, wordAt}
 use Rattle.lines.specs.Laws.{Hit, Miss, Looked, found, missing, hit-is}
 use Rattle.flush.specs.declared.Kind.{Kind}
-use Rattle.flush.specs.declared.Kind.the-variants.{Invalidate, CopyBack, Both}
-use Rattle.flush.specs.Flush.{copiesOf, dropsOf}
-use Rattle.flush_laws.specs.Sweep.{after, treated, isCopied, linesTo, ramTo, FitsTo}
-use Rattle.flush_laws.specs.Point.{dropped-invalid, after-tag, after-valid, after-uncovered, after-covered, pick-same, linesTo-later, linesTo-done, hits, newest, length-ramTo, ramTo-at}
+use Rattle.flush.specs.declared.Kind.the-variants.{CopyBack, Both}
+use Rattle.flush.specs.Flush.{copiesOf}
+use Rattle.flush_laws.specs.Sweep.{isCopied, linesTo, ramTo, FitsTo}
+use Rattle.flush_laws.specs.Point.{dropped-invalid, after-tag, after-valid, after-uncovered, after-covered, pick-same, linesTo-later, linesTo-done, hits, length-ramTo, ramTo-at}
 use Rattle.flush_laws.specs.Union.{fails, newest-none, copied-word}
 
 -- memory's word: RAM's or ROM's, or else none

@@ -4,3 +4,4 @@ pub mod Union
 pub mod Ranges
 pub mod Held
 pub mod Laws
+pub mod Done

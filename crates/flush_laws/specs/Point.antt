@@ -6,11 +6,11 @@ use mathlib.Core.Bool.{Bool, true, false, not, _&&_, _||_, and-false, and-true, 
 use mathlib.Core.List.{List}
 use native.Mathlib.Omega.{arith}
 use native.Mathlib.Nat.{add-zero}
-use native.Mathlib.Decide.{decLt, ℕ-discrete}
-use lib.ListN.{length, getD, set, take, drop, length-set}
+use native.Mathlib.Decide.{ℕ-discrete}
+use lib.ListN.{length, getD, set, drop, length-set}
 use lib.Seq.{getD-set-same, getD-set-other, ext-getD, set-getD, getD-take, getD-drop}
-use lib.Dec.{leb, eqb}
-use borrow.Author.Tests.{eqb-true, eqb-false, leb-true, leb-false, eq-eqb, ne-eqb, le-leb, lt-leb, not-false}
+use lib.Dec.{eqb}
+use borrow.Author.Tests.{eqb-true, eqb-false, leb-true, ne-eqb, not-false}
 use Rattle.words.specs.Words.{pick}
 use Rattle.words.specs.Laws.{either, and-left, and-right}
 use Rattle.memory.specs.Memory.{ramLine, putOf, lineFits, writeLineOf}
@@ -271,6 +271,14 @@ after-other k c p w e = go (valid w) refl (c (lineAddress p w)) e
     go L l false q = refl
     go false l true q = invalid-treated k w l
     go true l true q = absurd (true≢false (sym (rw l) ∙ q))
+
+-- no line becomes valid
+pub valid-before : (k : Kind) (c : ℕ → Bool) (p w : ℕ) → valid (after k c p w) ≡ true → valid w ≡ true
+valid-before k c p w e = go (valid w) refl
+  where
+    go : (b : Bool) → valid w ≡ b → valid w ≡ true
+    go true v = v
+    go false v = absurd (true≢false (sym e ∙ ap valid (after-other k c p w (rw v)) ∙ v))
 
 -- ---- the directory after the first n places
 

@@ -6,9 +6,8 @@ use mathlib.Core.Bool.{Bool, true, false, not, _&&_, _||_, and-false, and-true, 
 use mathlib.Core.List.{List, [], _∷_}
 use native.Mathlib.Omega.{arith}
 use native.Mathlib.Decide.{decLt, ℕ-discrete}
-use lib.ListN.{length, getD, set}
+use lib.ListN.{length, getD}
 use lib.Seq.{ext-getD, set-getD}
-use lib.Dec.{eqb}
 use borrow.Author.Tests.{eqb-true, eq-eqb}
 use Rattle.words.specs.Words.{pick}
 use Rattle.words.specs.Laws.{and-left, and-right}
@@ -17,8 +16,8 @@ use Rattle.flush.specs.declared.Flushed.{Flushed}
 use Rattle.flush.specs.declared.Range.{Range}
 use Rattle.flush.specs.declared.Kind.{Kind}
 use Rattle.flush.specs.declared.Kind.the-variants.{Invalidate, CopyBack, Both}
-use Rattle.flush.specs.Flush.{coversOf, copiesOf, wellOf, stoppedOf, Sweep, swept}
-use Rattle.flush_laws.specs.Sweep.{sweepBy, flushBy, after, isCopied, linesTo, ramTo, countTo, FitsTo, Fits, together, andThen, flushEach, named, sweep-by}
+use Rattle.flush.specs.Flush.{coversOf, copiesOf, wellOf, Sweep, swept}
+use Rattle.flush_laws.specs.Sweep.{flushBy, flushOf, after, isCopied, linesTo, ramTo, countTo, FitsTo, Fits, andThen, flushEach, named, sweep-by}
 use Rattle.flush_laws.specs.Point.{after-address, after-modified, after-union, after-both, _∪_, length-linesTo, linesTo-code, linesTo-later, linesTo-done, lines-ext, hits, newest, length-ramTo, ramTo-at, sweep-runs, StopsAt, First, fit, stops, first, sweep-stops}
 
 pub fails : (b : Bool) → (b ≡ true → ⊥) → b ≡ false
@@ -190,7 +189,7 @@ pub record Reach (k : Kind) (c : ℕ → Bool) (cs ls ram : List ℕ) (x : Sweep
   pub has-lines : x .lines ≡ linesTo k c ls n
   pub has-ram : x .ram ≡ ramTo k c cs ls ram n
 
-pub reach : (k : Kind) (c : ℕ → Bool) (cs ls ram : List ℕ) → Reach k c cs ls ram (flushBy k c cs ls ram)
+reach : (k : Kind) (c : ℕ → Bool) (cs ls ram : List ℕ) → Reach k c cs ls ram (flushBy k c cs ls ram)
 reach k c cs ls ram = go (first k c ls ram 1024)
   where
     go : First k c ls ram 1024 → Reach k c cs ls ram (flushBy k c cs ls ram)
@@ -202,6 +201,9 @@ reach k c cs ls ram = go (first k c ls ram 1024)
       has-lines = rw (sweep-stops k c cs ls ram n s 1024 h);
       has-ram = rw (sweep-stops k c cs ls ram n s 1024 h);
     }
+
+pub reach-of : (k : Kind) (r : Range) (sar : ℕ) (cs ls ram : List ℕ) → Reach k (coversOf r sar) cs ls ram (flushOf k r sar cs ls ram)
+reach-of k r sar cs ls ram = rw (sweep-by k r sar cs ls ram 1024) (reach k (coversOf r sar) cs ls ram)
 
 pub then-well : (x : Sweep) (next : List ℕ → List ℕ → Sweep) (a b : ℕ) (l r m s : List ℕ)
     → x ≡ swept (wellOf a) l r → next l r ≡ swept (wellOf b) m s → andThen x next ≡ swept (wellOf (a + b)) m s
@@ -356,3 +358,26 @@ joint c cs ls ram size f =
     then-well _ (flushBy Invalidate c cs) _ _ _ _ _ _ (runs CopyBack c cs ls ram f) (runs Invalidate c cs _ _ (invalidate-fits c (linesTo CopyBack c ls 1024) (ramTo CopyBack c cs ls ram 1024)))
     ∙ same-sweep _ _ _ _ _ _ (omega (arith, invalidate-count c cs (linesTo CopyBack c ls 1024) ram 1024, joint-count c cs ls ram 1024)) (joint-lines c cs ls ram size) (invalidate-ram c cs _ _ 1024 ∙ joint-ram c cs ls ram 1024)
     ∙ sym (runs Both c cs ls ram f)
+
+-- .. and only where each covered modified line lies in RAM: the joint command leaves one that does not, the two drop it
+pub joint-only : (c : ℕ → Bool) (cs ls ram : List ℕ) → length ls ≡ 1280
+    → andThen (flushBy CopyBack c cs ls ram) (flushBy Invalidate c cs) .lines ≡ flushBy Both c cs ls ram .lines → Fits CopyBack c ls ram
+unfolding isCopied
+joint-only c cs ls ram size same = go (first CopyBack c ls ram 1024)
+  where
+    two : (n : ℕ) → n < 1024 → StopsAt CopyBack c ls ram n → andThen (flushBy CopyBack c cs ls ram) (flushBy Invalidate c cs) .lines ≡ linesTo Invalidate c (linesTo CopyBack c ls n) 1024
+    two n h s = rw (sweep-stops CopyBack c cs ls ram n s 1024 h, runs Invalidate c cs (linesTo CopyBack c ls n) (ramTo CopyBack c cs ls ram n) (invalidate-fits c (linesTo CopyBack c ls n) (ramTo CopyBack c cs ls ram n)))
+
+    one : (n : ℕ) → n < 1024 → StopsAt CopyBack c ls ram n → flushBy Both c cs ls ram .lines ≡ linesTo Both c ls n
+    one n h s = rw (sweep-stops Both c cs ls ram n (record { before = s .before; toCopy = s .toCopy; outside = s .outside }) 1024 h)
+
+    stopped : (n : ℕ) → n < 1024 → StopsAt CopyBack c ls ram n → ⊥
+    stopped n h s =
+        let word : tagWord (linesTo Invalidate c (linesTo CopyBack c ls n) 1024) n ≡ tagWord (linesTo Both c ls n) n = ap (λ (l : List ℕ). tagWord l n) (sym (two n h s) ∙ same ∙ one n h s) in
+        let gone : after Invalidate c n (tagWord ls n) ≡ tagWord ls n = rw (linesTo-done Invalidate c (linesTo CopyBack c ls n) (length-linesTo CopyBack c ls n ∙ size) 1024 n whole h, linesTo-later CopyBack c ls n n (omega arith), linesTo-later Both c ls n n (omega arith)) at word in
+        let m : modified (tagWord ls n) ≡ true = and-right (c (lineAddress n (tagWord ls n))) _ (s .toCopy) in
+        true≢false (sym m ∙ ap modified (sym gone) ∙ rw (after-modified, and-left (c (lineAddress n (tagWord ls n))) _ (s .toCopy)) (and-false (modified (tagWord ls n))))
+
+    go : First CopyBack c ls ram 1024 → Fits CopyBack c ls ram
+    go (fit f) = f
+    go (stops n h s) = absurd (stopped n h s)
