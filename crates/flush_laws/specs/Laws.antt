@@ -14,9 +14,9 @@ use Rattle.flush.specs.declared.Kind.the-variants.{Invalidate, CopyBack, Both}
 use Rattle.flush.specs.declared.Range.{Range}
 use Rattle.flush.specs.declared.Range.the-variants.{Line, Page, Segment, All}
 use Rattle.flush.specs.Flush.{coversOf, Sweep, swept}
-use Rattle.flush_laws.specs.Sweep.{flushBy, flushOf, sweep-by, Fits, andThen, flushEach, named}
-use Rattle.flush_laws.specs.Point.{_∪_}
-use Rattle.flush_laws.specs.Union.{reach-of, union, each-named, endsAlike, again, joint, joint-only}
+use Rattle.flush_laws.specs.Sweep.{_∪_, endsAlike, flushBy, flushOf, sweep-by, Fits, andThen, flushEach, named}
+use Rattle.flush_laws.specs.Union.{reach-of, union, each-named}
+use Rattle.flush_laws.specs.Twice.{again, joint, joint-only}
 use Rattle.flush_laws.specs.Ranges.{Names, linesOf, pagesOf, segmentsOf, covers-line, pages-named, lines-named, segments-named}
 use Rattle.flush_laws.specs.Held.{memoryOf, heldOf, copied-held, joint-held}
 

@@ -1,6 +1,7 @@
 pub mod Sweep
 pub mod Point
 pub mod Union
+pub mod Twice
 pub mod Ranges
 pub mod Held
 pub mod Laws

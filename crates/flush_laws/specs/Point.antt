@@ -19,7 +19,7 @@ use Rattle.lines.specs.Laws.{state-keeps-tag, state-set, below4}
 use Rattle.flush.specs.declared.Kind.{Kind}
 use Rattle.flush.specs.declared.Kind.the-variants.{Invalidate, CopyBack, Both}
 use Rattle.flush.specs.Flush.{copiesOf, dropsOf, afterOf, wellOf, stoppedOf, Sweep, swept, copiedOf, lineOf}
-use Rattle.flush_laws.specs.Sweep.{lineBy, sweepBy, treated, after, isCopied, linesTo, ramTo, countTo, FitsTo}
+use Rattle.flush_laws.specs.Sweep.{_∪_, lineBy, sweepBy, treated, after, isCopied, linesTo, ramTo, countTo, FitsTo}
 
 -- ---- four words put into RAM
 
@@ -211,10 +211,6 @@ module _ (k : Kind) (c : ℕ → Bool) (p w : ℕ) where
       go : (b : Bool) → modified (pick b (treated k w) w) ≡ (modified w && not b)
       go true = treated-modified k w ∙ sym (and-false (modified w))
       go false = sym (and-true (modified w))
-
-infixl 30 _∪_
-abbrev pub _∪_ : (ℕ → Bool) → (ℕ → Bool) → ℕ → Bool
-_∪_ c₁ c₂ a = c₁ a || c₂ a
 
 pub after-union : (k : Kind) (c₁ c₂ : ℕ → Bool) (p w : ℕ) → after k c₂ p (after k c₁ p w) ≡ after k (c₁ ∪ c₂) p w
 unfolding after

@@ -31,6 +31,11 @@ flushBy k c cs ls ram = sweepBy k c cs ls ram 1024
 abbrev pub flushOf : Kind → Range → ℕ → List ℕ → List ℕ → List ℕ → Sweep
 flushOf k r sar cs ls ram = sweepOf k r sar cs ls ram 1024
 
+-- what either of two tests covers
+infixl 30 _∪_
+abbrev pub _∪_ : (ℕ → Bool) → (ℕ → Bool) → ℕ → Bool
+_∪_ c₁ c₂ a = c₁ a || c₂ a
+
 -- ---- a range and SAR are such a test
 
 tested : (L C : Bool) (x y : Sweep) → pick (L && C) x y ≡ pick C (pick (L && true) x y) y
@@ -97,6 +102,10 @@ andThen x next = swept (together (x .flushed) (next (x .lines) (x .ram) .flushed
 unfoldable pub flushEach : Kind → Range → List ℕ → List ℕ → List ℕ → List ℕ → Sweep
 flushEach k r cs [] ls ram = swept (wellOf 0) ls ram
 flushEach k r cs (sar ∷ sars) ls ram = andThen (flushOf k r sar cs ls ram) (flushEach k r cs sars)
+
+-- the answer of a second like flush: it ends as the first did and moves no word
+abbrev pub endsAlike : Flushed → Flushed
+endsAlike f = record { ok = f .ok; words = 0; failing = f .failing }
 
 -- is an address in the range that one of the SARs names?
 unfoldable pub named : Range → List ℕ → ℕ → Bool

@@ -1,8 +1,8 @@
--- Two flushes of one kind are the flush of the union: the one lemma from which the laws of ranges follow.
+-- Two flushes of one kind are the flush of the union, and so are a list of them: the lemma from which the laws of ranges follow.
 use Prim.Native.Nat.{ℕ, zero, suc, _+_, _*_, _/_, _%_, _≤_, _<_}
-use mathlib.Core.Path.{_≡_, refl, sym, ap, _∙_, subst, fun-ext}
+use mathlib.Core.Path.{_≡_, refl, sym, ap, _∙_}
 use mathlib.Core.Logic.{_≢_}
-use mathlib.Core.Bool.{Bool, true, false, not, _&&_, _||_, and-false, and-true, or-self, true≢false}
+use mathlib.Core.Bool.{Bool, true, false, not, _&&_, _||_, and-false, and-true, true≢false}
 use mathlib.Core.List.{List, [], _∷_}
 use native.Mathlib.Omega.{arith}
 use native.Mathlib.Decide.{decLt, ℕ-discrete}
@@ -12,13 +12,11 @@ use borrow.Author.Tests.{eqb-true, eq-eqb}
 use Rattle.words.specs.Words.{pick}
 use Rattle.words.specs.Laws.{and-left, and-right}
 use Rattle.lines.specs.Lines.{modified, tagAt, tagWord, lineAddress}
-use Rattle.flush.specs.declared.Flushed.{Flushed}
 use Rattle.flush.specs.declared.Range.{Range}
 use Rattle.flush.specs.declared.Kind.{Kind}
-use Rattle.flush.specs.declared.Kind.the-variants.{Invalidate, CopyBack, Both}
 use Rattle.flush.specs.Flush.{coversOf, copiesOf, wellOf, Sweep, swept}
-use Rattle.flush_laws.specs.Sweep.{flushBy, flushOf, after, isCopied, linesTo, ramTo, countTo, FitsTo, Fits, andThen, flushEach, named, sweep-by}
-use Rattle.flush_laws.specs.Point.{after-address, after-modified, after-union, after-both, _∪_, length-linesTo, linesTo-code, linesTo-later, linesTo-done, lines-ext, hits, newest, length-ramTo, ramTo-at, sweep-runs, StopsAt, First, fit, stops, first, sweep-stops}
+use Rattle.flush_laws.specs.Sweep.{_∪_, flushBy, flushOf, after, isCopied, linesTo, ramTo, countTo, FitsTo, Fits, andThen, flushEach, named, sweep-by}
+use Rattle.flush_laws.specs.Point.{after-address, after-modified, after-union, length-linesTo, linesTo-code, linesTo-later, linesTo-done, lines-ext, hits, newest, length-ramTo, ramTo-at, sweep-runs, First, fit, stops, first, sweep-stops}
 
 pub fails : (b : Bool) → (b ≡ true → ⊥) → b ≡ false
 fails true f = absurd (f refl)
@@ -115,10 +113,10 @@ sums a b s x y z e f = omega arith
 -- ---- the first n places flushed twice
 
 module _ (n : ℕ) (small : n ≤ 1024) (k : Kind) (c₁ c₂ : ℕ → Bool) (cs ls ram : List ℕ) (size : length ls ≡ 1280) where
-  lines₁ : List ℕ
+  unfoldable pub lines₁ : List ℕ
   lines₁ = linesTo k c₁ ls n
 
-  ram₁ : List ℕ
+  unfoldable pub ram₁ : List ℕ
   ram₁ = ramTo k c₁ cs ls ram n
 
   size₁ : length lines₁ ≡ 1280
@@ -133,7 +131,7 @@ module _ (n : ℕ) (small : n ≤ 1024) (k : Kind) (c₁ c₂ : ℕ → Bool) (c
   hits₁ : (a p : ℕ) → p < n → hits lines₁ a p ≡ (not (c₁ (a / 4 * 16)) && hits ls a p)
   hits₁ a p h = rw (word₁ p h, after-modified, after-address) (hits-after (modified (tagWord ls p)) _ (c₁ (a / 4 * 16)) _ (λ e. ap c₁ (sym (eqb-true _ _ e))))
 
-  both-lines : linesTo k c₂ lines₁ n ≡ linesTo k (c₁ ∪ c₂) ls n
+  pub both-lines : linesTo k c₂ lines₁ n ≡ linesTo k (c₁ ∪ c₂) ls n
   unfolding lines₁
   both-lines = lines-ext _ _ (length-linesTo k c₂ lines₁ n ∙ size₁) (length-linesTo k (c₁ ∪ c₂) ls n ∙ size) words (λ i h. simp linesTo-code)
     where
@@ -143,7 +141,7 @@ module _ (n : ℕ) (small : n ≤ 1024) (k : Kind) (c₁ c₂ : ℕ → Bool) (c
         | no l ↦ let g : n ≤ p = omega arith in simp linesTo-later
       ]
 
-  both-count : (m : ℕ) → m ≤ n → countTo k c₁ ls m + countTo k c₂ lines₁ m ≡ countTo k (c₁ ∪ c₂) ls m
+  pub both-count : (m : ℕ) → m ≤ n → countTo k c₁ ls m + countTo k c₂ lines₁ m ≡ countTo k (c₁ ∪ c₂) ls m
   unfolding countTo isCopied
   both-count zero h = refl
   both-count (suc m) h =
@@ -155,11 +153,11 @@ module _ (n : ℕ) (small : n ≤ 1024) (k : Kind) (c₁ c₂ : ℕ → Bool) (c
     unfolding isCopied
     fits₁ p h e = f p h (copied-first (copiesOf k) (c₁ _) (c₂ _) (modified (tagWord ls p)) e)
 
-    fits₂ : FitsTo n k c₂ lines₁ ram₁
+    pub fits₂ : FitsTo n k c₂ lines₁ ram₁
     unfolding ram₁ isCopied
     fits₂ p h = rw (word₁ p h, after-modified, after-address, length-ramTo) (λ e. f p h (copied-second (copiesOf k) (c₁ _) (c₂ _) (modified (tagWord ls p)) e))
 
-    both-ram : ramTo k c₂ cs lines₁ ram₁ n ≡ ramTo k (c₁ ∪ c₂) cs ls ram n
+    pub both-ram : ramTo k c₂ cs lines₁ ram₁ n ≡ ramTo k (c₁ ∪ c₂) cs ls ram n
     unfolding ram₁
     both-ram = ext-getD 0 _ _ (simp length-ramTo) at
       where
@@ -174,7 +172,7 @@ module _ (n : ℕ) (small : n ≤ 1024) (k : Kind) (c₁ c₂ : ℕ → Bool) (c
 
 -- ---- the whole command
 
-whole : 1024 ≤ 1024
+pub whole : 1024 ≤ 1024
 whole = omega arith
 
 module _ (k : Kind) (c : ℕ → Bool) (cs ls ram : List ℕ) (f : Fits k c ls ram) where
@@ -209,7 +207,7 @@ pub then-well : (x : Sweep) (next : List ℕ → List ℕ → Sweep) (a b : ℕ)
     → x ≡ swept (wellOf a) l r → next l r ≡ swept (wellOf b) m s → andThen x next ≡ swept (wellOf (a + b)) m s
 then-well x next a b l r m s e f = rw (e, f)
 
-same-sweep : (a b : ℕ) (l m r s : List ℕ) → a ≡ b → l ≡ m → r ≡ s → swept (wellOf a) l r ≡ swept (wellOf b) m s
+pub same-sweep : (a b : ℕ) (l m r s : List ℕ) → a ≡ b → l ≡ m → r ≡ s → swept (wellOf a) l r ≡ swept (wellOf b) m s
 same-sweep a b l m r s e f g = rw (e, f, g)
 
 module _ (k : Kind) (c₁ c₂ : ℕ → Bool) (cs ls ram : List ℕ) (size : length ls ≡ 1280) (f : Fits k (c₁ ∪ c₂) ls ram) where
@@ -258,126 +256,3 @@ each-named k r cs (sar ∷ sars) ls ram size f =
   where
     now : flushBy k (coversOf r sar) cs ls ram ≡ swept (wellOf (4 * countTo k (coversOf r sar) ls 1024)) (linesTo k (coversOf r sar) ls 1024) (ramTo k (coversOf r sar) cs ls ram 1024)
     now = runs k (coversOf r sar) cs ls ram (fits₁ 1024 whole k (coversOf r sar) (named r sars) cs ls ram size f)
-
--- ---- a second like flush, also where the first has stopped
-
-∪-self : (c : ℕ → Bool) → (c ∪ c) ≡ c
-∪-self c = fun-ext (λ a. or-self (c a))
-
-module _ (n : ℕ) (small : n ≤ 1024) (k : Kind) (c : ℕ → Bool) (cs ls ram : List ℕ) (size : length ls ≡ 1280) (f : FitsTo n k c ls ram) where
-  f∪ : FitsTo n k (c ∪ c) ls ram
-  f∪ = rw (∪-self c) f
-
-  again-lines : linesTo k c (linesTo k c ls n) n ≡ linesTo k c ls n
-  unfolding lines₁
-  again-lines = both-lines n small k c c cs ls ram size ∙ rw (∪-self c)
-
-  again-ram : ramTo k c cs (linesTo k c ls n) (ramTo k c cs ls ram n) n ≡ ramTo k c cs ls ram n
-  unfolding lines₁ ram₁
-  again-ram = both-ram n small k c c cs ls ram size f∪ ∙ rw (∪-self c)
-
-  again-count : countTo k c (linesTo k c ls n) n ≡ 0
-  unfolding lines₁
-  again-count = left _ _ (both-count n small k c c cs ls ram size n (omega arith) ∙ rw (∪-self c))
-    where
-      left : (a b : ℕ) → a + b ≡ a → b ≡ 0
-      left a b e = omega arith
-
-  again-fits : FitsTo n k c (linesTo k c ls n) (ramTo k c cs ls ram n)
-  unfolding lines₁ ram₁
-  again-fits = fits₂ n small k c c cs ls ram size f∪
-
-  again-stops : StopsAt k c ls ram n → StopsAt k c (linesTo k c ls n) (ramTo k c cs ls ram n) n
-  again-stops s = record {
-    before = again-fits;
-    toCopy = rw (linesTo-later k c ls n n (omega arith)) (s .toCopy);
-    outside = rw (linesTo-later k c ls n n (omega arith), length-ramTo) (s .outside);
-  }
-
--- the answer of the second: it ends as the first did and moves no word
-abbrev pub endsAlike : Flushed → Flushed
-endsAlike f = record { ok = f .ok; words = 0; failing = f .failing }
-
-module _ (k : Kind) (c : ℕ → Bool) (cs ls ram : List ℕ) (size : length ls ≡ 1280) where
-  Again : Sweep → Type 0
-  Again x = flushBy k c cs (x .lines) (x .ram) ≡ swept (endsAlike (x .flushed)) (x .lines) (x .ram)
-
-  pub again : flushBy k c cs (flushBy k c cs ls ram .lines) (flushBy k c cs ls ram .ram) ≡ swept (endsAlike (flushBy k c cs ls ram .flushed)) (flushBy k c cs ls ram .lines) (flushBy k c cs ls ram .ram)
-  unfolding Again
-  again = go (first k c ls ram 1024)
-    where
-      go : First k c ls ram 1024 → Again (flushBy k c cs ls ram)
-      go (fit f) = subst Again (sym (runs k c cs ls ram f)) (
-          runs k c cs _ _ (again-fits 1024 whole k c cs ls ram size f)
-          ∙ same-sweep _ _ _ _ _ _ (omega (arith, again-count 1024 whole k c cs ls ram size f)) (again-lines 1024 whole k c cs ls ram size f) (again-ram 1024 whole k c cs ls ram size f))
-      go (stops n h s) = subst Again (sym (sweep-stops k c cs ls ram n s 1024 h)) (
-          sweep-stops k c cs _ _ n (again-stops n (omega arith) k c cs ls ram size (s .before) s) 1024 h
-          ∙ rw (again-count n (omega arith) k c cs ls ram size (s .before), linesTo-later k c ls n n (omega arith), again-lines n (omega arith) k c cs ls ram size (s .before), again-ram n (omega arith) k c cs ls ram size (s .before)))
-
--- ---- copying back and then invalidating is the joint command
-
-module _ (c : ℕ → Bool) (cs ls ram : List ℕ) where
-  invalidate-ram : (n : ℕ) → ramTo Invalidate c cs ls ram n ≡ ram
-  unfolding ramTo isCopied
-  invalidate-ram zero = refl
-  invalidate-ram (suc n) = invalidate-ram n
-
-  joint-ram : (n : ℕ) → ramTo CopyBack c cs ls ram n ≡ ramTo Both c cs ls ram n
-  unfolding ramTo isCopied
-  joint-ram zero = refl
-  joint-ram (suc n) = rw (joint-ram n)
-
-  invalidate-count : (n : ℕ) → countTo Invalidate c ls n ≡ 0
-  unfolding countTo isCopied
-  invalidate-count zero = refl
-  invalidate-count (suc n) = rw (invalidate-count n)
-
-  joint-count : (n : ℕ) → countTo CopyBack c ls n ≡ countTo Both c ls n
-  unfolding countTo isCopied
-  joint-count zero = refl
-  joint-count (suc n) = rw (joint-count n)
-
-  joint-lines : length ls ≡ 1280 → linesTo Invalidate c (linesTo CopyBack c ls 1024) 1024 ≡ linesTo Both c ls 1024
-  joint-lines size = lines-ext _ _ (simp length-linesTo size) (simp length-linesTo size) words (λ i h. simp linesTo-code)
-    where
-      words : (p : ℕ) → p < 1024 → tagWord (linesTo Invalidate c (linesTo CopyBack c ls 1024) 1024) p ≡ tagWord (linesTo Both c ls 1024) p
-      words p h =
-          linesTo-done Invalidate c _ (simp length-linesTo size) 1024 p whole h
-          ∙ rw (linesTo-done CopyBack c ls size 1024 p whole h) (after-both c p _)
-          ∙ sym (linesTo-done Both c ls size 1024 p whole h)
-
--- an invalidating flush never stops
-pub invalidate-fits : (c : ℕ → Bool) (ls ram : List ℕ) → Fits Invalidate c ls ram
-unfolding isCopied
-invalidate-fits c ls ram p h e = absurd (true≢false (sym e))
-
-pub joint : (c : ℕ → Bool) (cs ls ram : List ℕ) → length ls ≡ 1280 → Fits CopyBack c ls ram
-    → andThen (flushBy CopyBack c cs ls ram) (flushBy Invalidate c cs) ≡ flushBy Both c cs ls ram
-unfolding isCopied
-joint c cs ls ram size f =
-    then-well _ (flushBy Invalidate c cs) _ _ _ _ _ _ (runs CopyBack c cs ls ram f) (runs Invalidate c cs _ _ (invalidate-fits c (linesTo CopyBack c ls 1024) (ramTo CopyBack c cs ls ram 1024)))
-    ∙ same-sweep _ _ _ _ _ _ (omega (arith, invalidate-count c cs (linesTo CopyBack c ls 1024) ram 1024, joint-count c cs ls ram 1024)) (joint-lines c cs ls ram size) (invalidate-ram c cs _ _ 1024 ∙ joint-ram c cs ls ram 1024)
-    ∙ sym (runs Both c cs ls ram f)
-
--- .. and only where each covered modified line lies in RAM: the joint command leaves one that does not, the two drop it
-pub joint-only : (c : ℕ → Bool) (cs ls ram : List ℕ) → length ls ≡ 1280
-    → andThen (flushBy CopyBack c cs ls ram) (flushBy Invalidate c cs) .lines ≡ flushBy Both c cs ls ram .lines → Fits CopyBack c ls ram
-unfolding isCopied
-joint-only c cs ls ram size same = go (first CopyBack c ls ram 1024)
-  where
-    two : (n : ℕ) → n < 1024 → StopsAt CopyBack c ls ram n → andThen (flushBy CopyBack c cs ls ram) (flushBy Invalidate c cs) .lines ≡ linesTo Invalidate c (linesTo CopyBack c ls n) 1024
-    two n h s = rw (sweep-stops CopyBack c cs ls ram n s 1024 h, runs Invalidate c cs (linesTo CopyBack c ls n) (ramTo CopyBack c cs ls ram n) (invalidate-fits c (linesTo CopyBack c ls n) (ramTo CopyBack c cs ls ram n)))
-
-    one : (n : ℕ) → n < 1024 → StopsAt CopyBack c ls ram n → flushBy Both c cs ls ram .lines ≡ linesTo Both c ls n
-    one n h s = rw (sweep-stops Both c cs ls ram n (record { before = s .before; toCopy = s .toCopy; outside = s .outside }) 1024 h)
-
-    stopped : (n : ℕ) → n < 1024 → StopsAt CopyBack c ls ram n → ⊥
-    stopped n h s =
-        let word : tagWord (linesTo Invalidate c (linesTo CopyBack c ls n) 1024) n ≡ tagWord (linesTo Both c ls n) n = ap (λ (l : List ℕ). tagWord l n) (sym (two n h s) ∙ same ∙ one n h s) in
-        let gone : after Invalidate c n (tagWord ls n) ≡ tagWord ls n = rw (linesTo-done Invalidate c (linesTo CopyBack c ls n) (length-linesTo CopyBack c ls n ∙ size) 1024 n whole h, linesTo-later CopyBack c ls n n (omega arith), linesTo-later Both c ls n n (omega arith)) at word in
-        let m : modified (tagWord ls n) ≡ true = and-right (c (lineAddress n (tagWord ls n))) _ (s .toCopy) in
-        true≢false (sym m ∙ ap modified (sym gone) ∙ rw (after-modified, and-left (c (lineAddress n (tagWord ls n))) _ (s .toCopy)) (and-false (modified (tagWord ls n))))
-
-    go : First CopyBack c ls ram 1024 → Fits CopyBack c ls ram
-    go (fit f) = f
-    go (stops n h s) = absurd (stopped n h s)
