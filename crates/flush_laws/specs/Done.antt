@@ -8,16 +8,19 @@ use native.Mathlib.Omega.{arith}
 use native.Mathlib.Decide.{decLt}
 use lib.ListN.{length, getD}
 use borrow.Author.Tests.{leb-true}
+use Rattle.words.specs.Words.{pick}
 use Rattle.words.specs.Laws.{and-left}
 use Rattle.memory.specs.Memory.{ramPlace, ramLine}
 use Rattle.lines.specs.Lines.{tagOf, codeAt, stateOf, valid, modified, tagWord, lineAddress, wordAt}
 use Rattle.lines.specs.Laws.{Hit, NoDoubles}
 use Rattle.flush.specs.declared.Kind.{Kind}
+use Rattle.flush.specs.declared.Kind.the-variants.{Invalidate}
 use Rattle.flush.specs.declared.Range.{Range}
-use Rattle.flush.specs.Flush.{coversOf, dropsOf, afterOf, wellOf, stoppedOf, Sweep, swept}
+use Rattle.flush.specs.Flush.{coversOf, dropsOf, wellOf, stoppedOf, Sweep, swept}
 use Rattle.flush_laws.specs.Sweep.{flushOf, sweep-by, after, isCopied, linesTo, ramTo, countTo, Fits}
 use Rattle.flush_laws.specs.Point.{after-tag, after-address, after-modified, after-copied, after-dropped, after-other, valid-before, linesTo-done, linesTo-later, linesTo-code, length-linesTo, length-ramTo, First, fit, stops, first, StopsAt, sweep-stops}
 use Rattle.flush_laws.specs.Union.{copied-word, kept-word, runs, reach-of}
+use Rattle.flush_laws.specs.Twice.{invalidate-ram}
 use Rattle.flush_laws.specs.Held.{hit-place, hits-hit}
 
 module _ (k : Kind) (r : Range) (sar : ℕ) (cs ls ram : List ℕ) where
@@ -63,7 +66,7 @@ module _ (k : Kind) (r : Range) (sar : ℕ) (cs ls ram : List ℕ) where
   pub codes-stay : (p : ℕ) → getD (out .lines) (codeAt p) 0 ≡ getD ls (codeAt p) 0
   codes-stay p = let x = reach-of k r sar cs ls ram in rw (x .has-lines) (linesTo-code k c ls (x .n) (codeAt p) (omega arith))
 
-  -- a word of RAM that is of no copied line; so every word under invalidate
+  -- a word of RAM that is of no copied line
   pub ram-stays : (a : ℕ) → ((p : ℕ) → p < 1024 → isCopied k c p (tagWord ls p) ≡ true → a / 4 * 16 ≢ lineAddress p (tagWord ls p)) → getD (out .ram) a 0 ≡ getD ram a 0
   ram-stays a f = let x = reach-of k r sar cs ls ram in rw (x .has-ram) (kept-word k c cs ls ram (x .fits) a (λ p l. f p (omega arith)))
 
@@ -120,7 +123,7 @@ module _ (k : Kind) (r : Range) (sar : ℕ) (cs ls ram : List ℕ) where
       done = rw ended (linesTo-done k c ls size 1024 p (omega arith) h)
 
       -- "a copied line becomes state 0; under 1C-1F each line is made invalid"
-      pub copied-state : isCopied k c p (tagWord ls p) ≡ true → stateOf (tagWord (out .lines) p) ≡ afterOf k
+      pub copied-state : isCopied k c p (tagWord ls p) ≡ true → stateOf (tagWord (out .lines) p) ≡ pick (dropsOf k) 3 0
       copied-state e = rw done (after-copied k c p (tagWord ls p) e)
 
       -- no valid line of the range is left by a command that invalidates ..
@@ -135,3 +138,7 @@ module _ (k : Kind) (r : Range) (sar : ℕ) (cs ls ram : List ℕ) where
           cleaned true true = refl
           cleaned true false = refl
           cleaned false C = refl
+
+-- invalidating writes no memory
+pub invalidate-ram-stays : (r : Range) (sar : ℕ) (cs ls ram : List ℕ) → flushOf Invalidate r sar cs ls ram .ram ≡ ram
+invalidate-ram-stays r sar cs ls ram = let x = reach-of Invalidate r sar cs ls ram in x .has-ram ∙ invalidate-ram (coversOf r sar) cs ls ram (x .n)

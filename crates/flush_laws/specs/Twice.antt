@@ -68,7 +68,7 @@ module _ (k : Kind) (c : ℕ → Bool) (cs ls ram : List ℕ) (size : length ls 
 -- ---- copying back and then invalidating is the joint command
 
 module _ (c : ℕ → Bool) (cs ls ram : List ℕ) where
-  invalidate-ram : (n : ℕ) → ramTo Invalidate c cs ls ram n ≡ ram
+  pub invalidate-ram : (n : ℕ) → ramTo Invalidate c cs ls ram n ≡ ram
   unfolding ramTo isCopied
   invalidate-ram zero = refl
   invalidate-ram (suc n) = invalidate-ram n
