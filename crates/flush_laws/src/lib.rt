@@ -1,0 +1,1 @@
+// The laws of the flush commands: theorems of specs/, no code.
