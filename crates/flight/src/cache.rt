@@ -171,7 +171,8 @@ pub fn take_drop(c: Course, lines: &mut [u32; 1280], moved: Moved) -> Flight
 {
     let d = crate::course::listed(c, moved);
     if moved.ok {
-        lines::set_state(lines, c.place, 3);
+        let p = c.place;
+        lines::set_state(lines, p, 3);
         return single(d);
     }
     crate::course::failed(d, 3, moved.failing)

@@ -102,13 +102,13 @@ pub fn finish(
     ensures { λ r. ⌜ r ≡ walkedOf area segment page address supervisor write ⌝ }
 {
     let t = crate::tables::combined(area, segment, page, address);
-    let code = crate::protection(t, supervisor, write);
-    if code == 0 {
+    let barred = crate::protection(t, supervisor, write);
+    if barred == 0 {
         if crate::tables::stale(t, write) {
             let next = crate::tables::renewed(t, write);
             return Walked::Update(next, crate::tables::described(page, write));
         }
         return Walked::Complete(t);
     }
-    Walked::Violation(violation(code, t))
+    Walked::Violation(violation(barred, t))
 }
