@@ -1,0 +1,1 @@
+// The flush laws for the commands as a program runs them: theorems alone, see specs/.
