@@ -4,19 +4,15 @@ use mathlib.Core.Path.{_≡_, refl}
 use mathlib.Core.Bool.{Bool, true, false}
 use mathlib.Core.List.{List, [], _∷_}
 use lib.ListN.{replicate}
-use lib.Dec.{eqb, leb}
-use Rattle.words.specs.Words.{pick, bitOf, mergeOf, keepOf}
+use Rattle.words.specs.Words.{pick, mergeOf, keepOf}
 use Rattle.order.specs.Order.{usedOf, earliestOf}
-use Rattle.memory.specs.declared.Moved.{Moved}
-use Rattle.memory.specs.Memory.{movedOf, readOf}
+use Rattle.memory.specs.Memory.{readOf}
 use Rattle.state.specs.declared.Access.{Access}
-use Rattle.state.specs.declared.Registers.{Registers}
 use Rattle.state.specs.Outcome.{caseOf, valueOf}
 use Rattle.state.specs.Own.{ownIdr}
 use Rattle.state.specs.Reset.{resetOf, noFault}
 use Rattle.lines.specs.Lines.{setOf, cellOf, victimOf}
 use Rattle.pages.specs.Pages.{segmentAt, pageAt, portHits, portOf, blockOf, combinedOf, protectionOf}
-use Rattle.pages.specs.Lookup.{placeOf}
 use Rattle.unit.specs.Registers.{readOf as registerOf}
 use Rattle.unit.specs.Answers.{plainOf, failedOf}
 use Rattle.unit.specs.Unit.{controlOf, accessOf}
