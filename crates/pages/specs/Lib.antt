@@ -2,4 +2,3 @@ pub mod Pages
 pub mod Patc
 pub mod Lookup
 pub mod Laws
-pub mod Rows
