@@ -1,17 +1,16 @@
 -- Each call keeps a unit well formed, on any memory: an access, a register write, a snoop.
-use Prim.Native.Nat.{ℕ, zero, suc, _+_, _*_, _/_, _%_, _^_, _<_, _≤_}
-use mathlib.Core.Path.{_≡_, refl, sym, ap, _∙_, subst}
-use mathlib.Core.Bool.{Bool, true, false, not, _&&_, true≢false}
+use Prim.Native.Nat.{ℕ, zero, suc, _^_, _<_, _≤_}
+use mathlib.Core.Path.{_≡_, sym, _∙_}
+use mathlib.Core.Bool.{Bool, true, false, _&&_, true≢false}
 use mathlib.Core.List.{List}
 use native.Mathlib.Omega.{arith}
 use lib.Dec.{eqb, ltb, leb}
-use lib.ListN.{length}
 use borrow.Author.Tests.{ltb-true}
-use Rattle.words.specs.Words.{pick, bitOf, bitsOf}
+use Rattle.words.specs.Words.{bitOf, bitsOf}
 use Rattle.words.specs.Laws.{either, and-left, and-right}
 use Rattle.memory.specs.Memory.{Wrote, writeLineOf}
 use Rattle.lines.specs.Lines.{valid, modified, tagWord, lineAddress, hitOf, marked, lineWords}
-use Rattle.lines.specs.Laws.{Hit, Looked, hit-is}
+use Rattle.lines.specs.Laws.{Looked, hit-is}
 use Rattle.state.specs.declared.Access.{Access}
 use Rattle.state.specs.declared.Registers.{Registers}
 use Rattle.state.specs.declared.Fault.{Fault}
@@ -19,8 +18,7 @@ use Rattle.state.specs.declared.FaultPair.{FaultPair}
 use Rattle.state.specs.declared.Outcome.{Outcome}
 use Rattle.state.specs.Own.{ownScr, ownStatus, own-scr}
 use Rattle.state.specs.Outcome.{pairOf}
-use Rattle.pages.specs.Patc.{clearedOf}
-use Rattle.flight.specs.Steps.{Scene, Ended, opening, accessOf as stepsOf}
+use Rattle.flight.specs.Steps.{opening}
 use Rattle.flush.specs.declared.Flushed.{Flushed}
 use Rattle.flush.specs.declared.Kind.{Kind}
 use Rattle.flush.specs.declared.Range.{Range}
@@ -30,19 +28,18 @@ use Rattle.flush.specs.Flush.{Sweep, swept, coversOf, copiesOf, dropsOf, afterO
 use Rattle.flush.specs.Snoop.{Snoop, yieldOf, retriedOf, hitBy, snoopOf as lineSnoop}
 use Rattle.unit.specs.declared.commands.Command.{Command}
 use Rattle.unit.specs.declared.commands.Command.the-variants.{Nothing, Flush, Probe, Clear as ClearEntries}
-use Rattle.unit.specs.Alone.{Memory, memory, alone}
-use Rattle.unit.specs.Registers.{areaOf, withScr, setRegisterOf, setFaultOf}
+use Rattle.unit.specs.Alone.{memory}
+use Rattle.unit.specs.Registers.{areaOf, withScr}
 use Rattle.unit.specs.Commands.{Commanded, commandOf, flushOf, runOf}
 use Rattle.unit.specs.Answers.{faultOf, plainOf, failedOf, writtenOf}
 use Rattle.unit.specs.Unit.{Kept, writeOf, Controlled, reachesOf, controlOf, Whole, mappedOf, accessOf, afterSnoop, snoopOf}
 use Rattle.fields.specs.Fields.{Words}
-use Rattle.image.specs.Chip.{Chip, chip}
-use Rattle.reached.specs.Good.{GoodRegisters, GoodPair, GoodEntries, GoodLines, GoodCells, Good}
+use Rattle.reached.specs.Good.{GoodRegisters, GoodPair, GoodEntries, GoodLines, GoodCells}
 use Rattle.reached.specs.Directory.{marked-good, dropped-good, hit-of}
 use Rattle.reached.specs.Entries.{cleared-good}
 use Rattle.reached.specs.Stores.{line-fails}
 use Rattle.reached.specs.Steps.Small.{idle, word, written, fault}
-use Rattle.reached.specs.Steps.{Fine, Small, Settled, steps-fine}
+use Rattle.reached.specs.Steps.{Fine, Small, steps-fine}
 use Rattle.reached.specs.Registers.{scr-good, ssr-good, pointer-good, set-good, fault-good, snoop-own, flushed-good, probe-good}
 
 -- ---- a flush
@@ -210,6 +207,6 @@ snoop-good u ls cs ram gu gl address g im =
     let look : Looked ls address p = hit-is ls address in (
       after-good u gu _,
       either (λ (s : Snoop). GoodLines (s .lines)) (on && ltb p 1024)
-      (λ e. hit-good im p ls cs ram gl (ltb-true p 1024 (and-right on (ltb p 1024) e)) (hit-of look (and-right on (ltb p 1024) e) .isValid))
-      (λ _. gl),
+          (λ e. hit-good im p ls cs ram gl (ltb-true p 1024 (and-right on (ltb p 1024) e)) (hit-of look (and-right on (ltb p 1024) e) .isValid))
+          (λ _. gl),
     )

@@ -1,20 +1,20 @@
 -- A line's state, a fill and a use keep the directory well formed.
-use Prim.Native.Nat.{ℕ, _+_, _*_, _/_, _%_, _<_, _≤_}
+use Prim.Native.Nat.{ℕ, _+_, _*_, _/_, _%_, _<_}
 use mathlib.Core.Path.{_≡_, refl, sym, ap, _∙_, subst}
-use mathlib.Core.Bool.{Bool, true, false, not}
+use mathlib.Core.Bool.{true, false}
 use mathlib.Core.List.{List}
 use native.Mathlib.Omega.{arith}
 use native.Mathlib.Decide.{ℕ-discrete}
-use lib.Dec.{eqb, ltb}
-use lib.ListN.{length, getD, set, length-set}
+use lib.Dec.{ltb}
+use lib.ListN.{length, getD}
 use lib.Seq.{getD-set-same, getD-set-other}
-use borrow.Author.Tests.{ltb-true, ltb-false, lt-ltb}
+use borrow.Author.Tests.{ltb-true, ltb-false}
 use Rattle.words.specs.Words.{bitsOf}
 use Rattle.order.specs.Order.{isOrder, usedOf}
 use Rattle.order.specs.Laws.{used-small, used-order}
-use Rattle.state.specs.Own.{ownTag, ownCode, tag-fields}
-use Rattle.lines.specs.Lines.{setOf, tagOf, tagAt, codeAt, stateOf, valid, tagWord, hitOf, victimOf, withState, marked, tagged, filledOf, usedAt}
-use Rattle.lines.specs.Laws.{length-marked, length-filled, length-used, marked-code, filled-code, used-word, filled-same, Hit, Miss, Looked, NoDoubles, used-alone, marked-alone, filled-alone, state-own}
+use Rattle.state.specs.Own.{ownCode, tag-fields}
+use Rattle.lines.specs.Lines.{setOf, tagOf, tagAt, codeAt, stateOf, valid, tagWord, marked, tagged, filledOf, usedAt}
+use Rattle.lines.specs.Laws.{length-marked, length-filled, length-used, marked-code, filled-code, filled-same, Hit, Miss, Looked, used-alone, marked-alone, filled-alone, state-own}
 use Rattle.lines.specs.Laws.Looked.{found, missing}
 use Rattle.image.specs.declared.Layout.the-variants.{Sets}
 use Rattle.image.specs.Chip.{ownWords}

@@ -1,7 +1,7 @@
 -- A load, a renewal and the clearing commands keep the PATC well formed.
 use Prim.Native.Nat.{ℕ, zero, suc, _+_, _*_, _/_, _%_, _<_, _≤_}
 use mathlib.Core.Path.{_≡_, refl, sym, ap, _∙_, subst}
-use mathlib.Core.Bool.{Bool, true, false, not, _&&_}
+use mathlib.Core.Bool.{Bool, false, _&&_}
 use mathlib.Core.List.{List}
 use mathlib.Core.Logic.{_⊎_, inl, inr}
 use native.Mathlib.Omega.{arith}
@@ -9,15 +9,15 @@ use native.Mathlib.Decide.{ℕ-discrete}
 use lib.Dec.{eqb, ltb}
 use lib.ListN.{length, getD, set, length-set}
 use lib.Seq.{getD-set-same, getD-set-other}
-use borrow.Author.Tests.{ne-eqb, eqb-false, ltb-true}
-use Rattle.words.specs.Words.{pick, bitsOf, bitOf}
+use borrow.Author.Tests.{ne-eqb, eqb-false}
+use Rattle.words.specs.Words.{bitsOf, bitOf}
 use Rattle.words.specs.Laws.{either}
-use Rattle.state.specs.Own.{ownTag, ownFrame, ownPointer, pointer-small, tag-fields}
+use Rattle.state.specs.Own.{ownTag, ownPointer, pointer-small, tag-fields}
 use Rattle.pages.specs.declared.Translation.{Translation}
 use Rattle.pages.specs.declared.patc.Range.{Range}
 use Rattle.pages.specs.Pages.{same, flagOf, pageWordOf, frameWordOf}
 use Rattle.pages.specs.Patc.{pageWord, entryOf, freeOf, putOf, steppedOf, Loaded, loadOf, named, clearedWord, clearedTo, clearedOf}
-use Rattle.pages.specs.Laws.{length-put, NoTwins, load-alone, renew-alone, kept-alone, word-own, frame-own}
+use Rattle.pages.specs.Laws.{length-put, load-alone, renew-alone, kept-alone, word-own, frame-own}
 use Rattle.image.specs.declared.Layout.the-variants.{Entries}
 use Rattle.image.specs.Chip.{ownWords}
 use Rattle.image.specs.Own.{own-at, page-own, frame-own as frame-place}

@@ -1,27 +1,24 @@
 -- A unit that was just reset is well formed.
-use Prim.Native.Nat.{ℕ, zero, suc, _+_, _*_, _/_, _%_, _^_, _<_, _≤_}
-use mathlib.Core.Path.{_≡_, refl, sym, ap, _∙_, subst}
-use mathlib.Core.Bool.{Bool, true, false, not, true≢false}
+use Prim.Native.Nat.{ℕ, zero, suc, _+_, _*_, _%_, _^_, _<_}
+use mathlib.Core.Path.{_≡_, refl, sym, ap, _∙_}
+use mathlib.Core.Bool.{false, true≢false}
 use mathlib.Core.List.{List}
 use native.Mathlib.Omega.{arith}
 use native.Mathlib.Decide.{ℕ-discrete}
 use lib.Dec.{eqb}
 use lib.ListN.{length, getD, replicate}
 use borrow.Author.Tests.{ne-eqb}
-use Rattle.words.specs.Words.{pick, bitOf}
 use Rattle.words.specs.Laws.{either}
-use Rattle.order.specs.Order.{isOrder}
 use Rattle.order.specs.Laws.{table, tabled, length-table, fresh-order}
 use Rattle.state.specs.Own.{ownIdr, ownScr, ownSsr, ownSctr, ownStatus, ownArea, ownTag, ownFrame, ownCode}
 use Rattle.state.specs.Reset.{resetOf, noFault}
-use Rattle.lines.specs.Lines.{tagAt, codeAt, valid, tagWord}
+use Rattle.lines.specs.Lines.{tagAt, codeAt}
 use Rattle.lines.specs.Laws.{NoDoubles}
-use Rattle.pages.specs.Patc.{pageWord}
 use Rattle.pages.specs.Laws.{NoTwins}
 use Rattle.unit.specs.Fresh.{clearedOf, freshWord, freshLines}
 use Rattle.fields.specs.Fields.{Words}
 use Rattle.image.specs.declared.Layout.the-variants.{Entries, Sets}
-use Rattle.image.specs.Chip.{chip, ownWord, ownWords}
+use Rattle.image.specs.Chip.{chip, ownWord}
 use Rattle.image.specs.Own.{own-fixed, tag-own, code-own}
 use Rattle.reached.specs.Good.{GoodRegisters, GoodPair, GoodEntries, GoodLines, GoodCells, Good}
 

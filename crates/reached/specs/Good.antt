@@ -1,14 +1,13 @@
 -- A well-formed unit, part by part: registers, fault pair, PATC, directory, cache data.
-use Prim.Native.Nat.{ℕ, _+_, _*_, _/_, _%_, _^_, _<_, _≤_}
-use mathlib.Core.Path.{_≡_, refl, sym, ap, _∙_, subst}
-use mathlib.Core.Bool.{Bool, true, false}
+use Prim.Native.Nat.{ℕ, _+_, _*_, _/_, _^_, _<_, _≤_}
+use mathlib.Core.Path.{_≡_, sym, ap, _∙_}
+use mathlib.Core.Bool.{true}
 use mathlib.Core.List.{List}
 use native.Mathlib.Omega.{arith}
 use native.Mathlib.Decide.{ℕ-discrete}
 use lib.Dec.{eqb}
 use lib.ListN.{length, getD, set}
 use borrow.Author.Tests.{eq-eqb, ne-eqb, eqb-true, eqb-false}
-use Rattle.words.specs.Words.{bitsOf, bitOf}
 use Rattle.order.specs.Order.{isOrder}
 use Rattle.state.specs.declared.Registers.{Registers}
 use Rattle.state.specs.declared.FaultPair.{FaultPair}
@@ -19,9 +18,9 @@ use Rattle.pages.specs.Laws.{NoTwins}
 use Rattle.fields.specs.Fields.{Words}
 use Rattle.image.specs.declared.Layout.{Layout}
 use Rattle.image.specs.declared.Layout.the-variants.{Entries, Sets}
-use Rattle.image.specs.Chip.{Chip, chip, Sized, Fit, ownWord, ownWords, ownRegisters, ownPair, ownOf}
+use Rattle.image.specs.Chip.{Chip, ownWord, ownWords, ownRegisters, ownPair, ownOf}
 use Rattle.image.specs.Own.{own-set}
-use Rattle.image.specs.WellFormed.{WellFormed, OneTag, OnePage}
+use Rattle.image.specs.WellFormed.{WellFormed, OnePage}
 use Rattle.image.specs.Sound.{OnePlace, well-places, places-well}
 
 pub record GoodRegisters (u : Registers) : Type 0 where

@@ -2,8 +2,8 @@
 use Prim.Native.Nat.{ℕ, _^_, _<_}
 use mathlib.Core.Path.{_≡_}
 use mathlib.Core.Bool.{Bool}
-use mathlib.Core.List.{List, _++_}
-use lib.ListN.{length, drop}
+use mathlib.Core.List.{List}
+use lib.ListN.{length}
 use Rattle.state.specs.declared.Access.{Access}
 use Rattle.state.specs.Reset.{resetOf, noFault}
 use Rattle.unit.specs.Fresh.{clearedOf, freshLines}
@@ -17,7 +17,7 @@ use Rattle.image.specs.WellFormed.{WellFormed}
 use Rattle.image.specs.Trips.{read-well, written-reads, written-taken, saved-restores}
 use Rattle.reached.specs.Good.{Good, good-well, well-good}
 use Rattle.reached.specs.Fresh.{fresh-good}
-use Rattle.reached.specs.Calls.{Writes, write-good, Accesses, access-good, snoop-good}
+use Rattle.reached.specs.Calls.{write-good, access-good, snoop-good}
 
 -- ---- a unit after a call
 

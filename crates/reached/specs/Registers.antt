@@ -1,30 +1,28 @@
 -- A register write, a probe and a flush keep the registers well formed.
-use Prim.Native.Nat.{ℕ, _+_, _-_, _*_, _/_, _%_, _^_, _<_, _≤_}
-use mathlib.Core.Path.{_≡_, refl, sym, ap, _∙_, subst}
+use Prim.Native.Nat.{ℕ, _+_, _*_, _%_, _^_, _<_, _≤_}
+use mathlib.Core.Path.{_≡_, _∙_, subst}
 use mathlib.Core.Bool.{Bool, true, false, not}
 use mathlib.Core.List.{List}
 use native.Mathlib.Omega.{arith}
 use lib.Dec.{eqb, ltb, leb}
 use lib.ListN.{set, length-set}
-use Rattle.words.specs.Words.{pick, bitOf, bitsOf}
+use Rattle.words.specs.Words.{bitOf, bitsOf}
 use Rattle.words.specs.Laws.{either}
 use Rattle.memory.specs.declared.Read.{Read}
 use Rattle.memory.specs.Memory.{readOf as readWordOf}
 use Rattle.state.specs.declared.Registers.{Registers}
 use Rattle.state.specs.declared.FaultPair.{FaultPair}
-use Rattle.state.specs.Own.{ownIdr, ownScr, ownSsr, ownSctr, ownStatus, ownArea, own-scr, own-ssr, own-sctr, own-status, own-area, ssr-fields}
+use Rattle.state.specs.Own.{ownScr, ownSsr, ownSctr, ownArea, own-ssr, own-sctr, own-status, own-area, ssr-fields}
 use Rattle.pages.specs.declared.Translation.{Translation}
 use Rattle.pages.specs.declared.lookup.Place.{Place}
-use Rattle.pages.specs.declared.lookup.Place.the-variants.{Unmapped, Block, Page, Nowhere}
 use Rattle.pages.specs.Pages.{flagOf, unmappedOf, portOf, blockOf, pagedOf, segmentAt, pageAt, combinedOf}
 use Rattle.pages.specs.Patc.{entryOf, frameWord}
 use Rattle.pages.specs.Laws.{flag-bit}
 use Rattle.pages.specs.Lookup.{placeOf}
 use Rattle.unit.specs.declared.registers.Ran.{Ran}
-use Rattle.unit.specs.Registers.{areaOf, withScr, withSsr, withSar, withSctr, withSapr, withUapr, withPointer, withPort, withStatus, setFaultOf, setPortOf, setRegisterOf}
+use Rattle.unit.specs.Registers.{areaOf, withScr, withSsr, withSar, withSctr, withSapr, withUapr, withPointer, withPort, setFaultOf, setPortOf, setRegisterOf}
 use Rattle.unit.specs.Probe.{ceOf, statusOf, foundOf, missingOf, failedOf, pageOf, tablesOf, placedOf, probeOf}
 use Rattle.unit.specs.Commands.{flushedOf}
-use Rattle.fields.specs.Fields.{Words}
 use Rattle.reached.specs.Good.{GoodRegisters, GoodPair}
 use Rattle.reached.specs.Stores.{words-set, read-fails}
 

@@ -1,19 +1,19 @@
 -- Every step of an access keeps what it may change well formed, and faults at an address of 32 bits.
-use Prim.Native.Nat.{ℕ, _+_, _*_, _/_, _%_, _^_, _<_, _≤_}
-use mathlib.Core.Path.{_≡_, refl, sym, ap, _∙_, subst}
+use Prim.Native.Nat.{ℕ, _+_, _*_, _/_, _^_, _<_, _≤_}
+use mathlib.Core.Path.{_≡_, refl, sym, _∙_, subst}
 use mathlib.Core.Bool.{Bool, true, false, not, _&&_, _||_, true≢false}
 use mathlib.Core.List.{List}
 use native.Mathlib.Omega.{arith}
 use lib.Dec.{eqb, ltb}
 use lib.ListN.{length}
 use borrow.Author.Tests.{ltb-true, ltb-false}
-use Rattle.words.specs.Words.{pick, bitOf, bitsOf}
+use Rattle.words.specs.Words.{bitOf, bitsOf}
 use Rattle.words.specs.Laws.{either}
 use Rattle.memory.specs.declared.Moved.{Moved}
 use Rattle.memory.specs.declared.Read.{Read}
-use Rattle.memory.specs.Memory.{Wrote, readOf as readWordOf, partOf, shownOf, writeWordOf, writeLineOf, putOf}
-use Rattle.lines.specs.Lines.{setOf, stateOf, valid, modified, tagWord, lineAddress, hitOf, victimOf, marked, filledOf, usedAt, mergedAt, lineWords}
-use Rattle.lines.specs.Laws.{Hit, Miss, Looked, hit-is, victim-is, used-word}
+use Rattle.memory.specs.Memory.{Wrote, readOf as readWordOf, partOf, shownOf, writeWordOf, writeLineOf}
+use Rattle.lines.specs.Lines.{setOf, stateOf, valid, modified, tagWord, lineAddress, hitOf, victimOf, marked, usedAt, lineWords}
+use Rattle.lines.specs.Laws.{Miss, Looked, hit-is, victim-is, used-word}
 use Rattle.state.specs.declared.Access.{Access}
 use Rattle.state.specs.declared.Fault.{Fault}
 use Rattle.state.specs.declared.Transaction.{Transaction}
@@ -21,17 +21,15 @@ use Rattle.state.specs.declared.Outcome.{Outcome}
 use Rattle.state.specs.declared.Outcome.the-variants.{Idle, Word, Written, Failed}
 use Rattle.pages.specs.declared.Translation.{Translation}
 use Rattle.pages.specs.declared.lookup.Place.{Place}
-use Rattle.pages.specs.declared.lookup.Place.the-variants.{Unmapped, Block, Page, Nowhere}
 use Rattle.pages.specs.declared.lookup.Lookup.{Lookup}
 use Rattle.pages.specs.declared.lookup.Lookup.the-variants.{Found, Search, Violation}
 use Rattle.pages.specs.declared.lookup.Walked.{Walked}
 use Rattle.pages.specs.declared.lookup.Walked.the-variants.{Update, Complete, Violation as Barred}
 use Rattle.pages.specs.Pages.{unmappedOf, portOf, blockOf, pagedOf, protectionOf, segmentAt, pageAt, combinedOf, staleOf, renewedOf, pageWordOf, frameWordOf}
-use Rattle.pages.specs.Patc.{frameWord, entryOf, putOf as putEntry, Loaded, loadOf}
+use Rattle.pages.specs.Patc.{frameWord, entryOf, putOf as putEntry}
 use Rattle.pages.specs.Laws.{entry-le}
 use Rattle.pages.specs.Lookup.{placeOf, guardedOf, enteredOf, judgeOf, walkedOf}
-use Rattle.flight.specs.Ops.{Got, Shown, Sent, Ops}
-use Rattle.flight.specs.Steps.{Scene, Ended, ended, faulted, noted, withLines, withCache, withPatc, moves, storeOf, readOf, fillOf, copybackOf, missAt, writeOf, singleX, singleOf, inhibitedOf, cacheOf, walks, loadedOf, finishOf, pageOf, searchOf, goOf, accessOf, opening}
+use Rattle.flight.specs.Steps.{Scene, Ended, ended, noted, withLines, withCache, withPatc, moves, storeOf, readOf, fillOf, copybackOf, missAt, writeOf, singleX, singleOf, inhibitedOf, cacheOf, walks, loadedOf, finishOf, pageOf, searchOf, goOf, accessOf}
 use Rattle.unit.specs.Alone.{Memory, memory, alone}
 use Rattle.fields.specs.Fields.{Words}
 use Rattle.reached.specs.Good.{GoodEntries, GoodLines, GoodCells}

@@ -1,13 +1,11 @@
 -- Words of 32 bits stay so in every list that is written, and a failing address is one.
-use Prim.Native.Nat.{ℕ, zero, suc, _+_, _-_, _*_, _/_, _%_, _^_, _<_, _≤_}
-use mathlib.Core.Path.{_≡_, refl, sym, ap, _∙_}
-use mathlib.Core.Bool.{Bool, true, false}
+use Prim.Native.Nat.{ℕ, zero, suc, _+_, _-_, _*_, _^_, _<_}
+use mathlib.Core.Path.{_≡_, _∙_}
 use mathlib.Core.List.{List, [], _∷_}
 use native.Mathlib.Omega.{arith}
 use lib.Dec.{ltb, leb}
 use lib.ListN.{length, getD, set, take, drop, length-set}
 use lib.Seq.{getD-drop}
-use Rattle.words.specs.Words.{mergeOf}
 use Rattle.words.specs.Laws.{either, merge-small}
 use Rattle.memory.specs.declared.Moved.{Moved}
 use Rattle.memory.specs.declared.Read.{Read}
