@@ -1,0 +1,9 @@
+pub mod Good
+pub mod Directory
+pub mod Entries
+pub mod Stores
+pub mod Steps
+pub mod Registers
+pub mod Calls
+pub mod Fresh
+pub mod Reached
