@@ -18,7 +18,8 @@ pub struct Numbered {
     pub number: u32,
 }
 
-pub fn mc88200_reset(
+#[no_mangle]
+pub extern "C" fn mc88200_reset(
     unit: &mut [u32; 16],
     fault: &mut FaultPair,
     patc: &mut [u32; 112],
@@ -33,7 +34,8 @@ pub fn mc88200_reset(
     r.number
 }
 
-pub fn mc88200_access(
+#[no_mangle]
+pub extern "C" fn mc88200_access(
     unit: &mut [u32; 16],
     fault: &mut FaultPair,
     patc: &mut [u32; 112],
@@ -67,7 +69,8 @@ pub fn mc88200_access(
     r.number
 }
 
-pub fn mc88200_snoop(
+#[no_mangle]
+pub extern "C" fn mc88200_snoop(
     unit: &mut [u32; 16],
     lines: &mut [u32; 1280],
     cells: &[u32],
@@ -81,7 +84,8 @@ pub fn mc88200_snoop(
     calls::snoop(unit, lines, cells, ram, address, kind, reply)
 }
 
-pub fn mc88200_read_register(
+#[no_mangle]
+pub extern "C" fn mc88200_read_register(
     unit: &[u32; 16],
     fault: &FaultPair,
     offset: u32,
@@ -93,7 +97,8 @@ pub fn mc88200_read_register(
     r.number
 }
 
-pub fn mc88200_write_register(
+#[no_mangle]
+pub extern "C" fn mc88200_write_register(
     unit: &mut [u32; 16],
     fault: &mut FaultPair,
     patc: &mut [u32; 112],
@@ -123,7 +128,8 @@ pub fn mc88200_write_register(
     r.number
 }
 
-pub fn mc88200_save(
+#[no_mangle]
+pub extern "C" fn mc88200_save(
     unit: &[u32; 16],
     fault: &FaultPair,
     patc: &[u32; 112],
@@ -137,7 +143,8 @@ pub fn mc88200_save(
     r.number
 }
 
-pub fn mc88200_restore(
+#[no_mangle]
+pub extern "C" fn mc88200_restore(
     unit: &mut [u32; 16],
     fault: &mut FaultPair,
     patc: &mut [u32; 112],
