@@ -18,7 +18,8 @@ pub struct Registers {
     pub ports: [u32; 8],
 }
 
-// PFSR and PFAR.
+// PFSR and PFAR, laid out for hosts in C.
+#[repr(C)]
 pub struct FaultPair {
     pub status: u32,
     pub address: u32,

@@ -1,0 +1,131 @@
+-- The C functions: a refusal's number and nothing changed, no reply either; or 0, and what the call of door does.
+use Prim.Native.Nat.{ℕ}
+use mathlib.Core.List.{List, [], _∷_}
+use lib.Dec.{eqb}
+use Rattle.words.specs.Words.{pick, bitOf}
+use Rattle.state.specs.declared.FaultPair.{FaultPair}
+use Rattle.image.specs.Chip.{Chip, chip}
+use Rattle.image.specs.Image.{Saved}
+use Rattle.door.specs.declared.ReadReply.{ReadReply}
+use Rattle.door.specs.Calls.{AccessDone, accessCall, SnoopDone, snoopCall, readCall, WriteDone, writeCall, UnitDone, resetCall, restoreCall, saveCall}
+use Rattle.mc88200.specs.Layout.{registersOf, unitOf, accessAs, replyOf, snoopedOf}
+
+-- `next` where a call has no number, else what was there
+abbrev pub unless : ℕ → List ℕ → List ℕ → List ℕ
+unless n was next = pick (eqb n 0) next was
+
+-- ---- an access
+
+pub record AccessOut : Type 0 where
+  pub number : ℕ
+  pub unit : List ℕ
+  pub fault : FaultPair
+  pub patc : List ℕ
+  pub lines : List ℕ
+  pub cells : List ℕ
+  pub ram : List ℕ
+  pub reply : List ℕ
+
+abbrev pub accessOut : ℕ → List ℕ → FaultPair → List ℕ → List ℕ → List ℕ → List ℕ → List ℕ → AccessOut
+accessOut n unit p ps ls cs ram reply =
+    record { number = n; unit = unit; fault = p; patc = ps; lines = ls; cells = cs; ram = ram; reply = reply }
+
+unfoldable pub accessBy : List ℕ → List ℕ → AccessDone → AccessOut
+accessBy unit reply d =
+    accessOut (d .reply .number) (unless (d .reply .number) unit (unitOf (d .reply .registers))) (d .pair) (d .patc) (d .lines) (d .cells) (d .ram)
+    (unless (d .reply .number) reply (replyOf (d .reply .answer)))
+
+abbrev pub accessExport : List ℕ → FaultPair → List ℕ → List ℕ → List ℕ → List ℕ → List ℕ → ℕ → ℕ → ℕ → ℕ → List ℕ → AccessOut
+accessExport unit p ps ls cs ram rom address kind enables word reply =
+    accessBy unit reply (accessCall (registersOf unit) p ps ls cs ram rom (accessAs address kind enables word))
+
+-- ---- a snoop
+
+pub record SnoopOut : Type 0 where
+  pub number : ℕ
+  pub unit : List ℕ
+  pub lines : List ℕ
+  pub ram : List ℕ
+  pub reply : List ℕ
+
+abbrev pub snoopOut : ℕ → List ℕ → List ℕ → List ℕ → List ℕ → SnoopOut
+snoopOut n unit ls ram reply = record { number = n; unit = unit; lines = ls; ram = ram; reply = reply }
+
+unfoldable pub snoopBy : List ℕ → List ℕ → SnoopDone → SnoopOut
+snoopBy unit reply d =
+    snoopOut (d .reply .number) (unless (d .reply .number) unit (unitOf (d .reply .registers))) (d .lines) (d .ram)
+    (unless (d .reply .number) reply (snoopedOf (d .reply .answer) ∷ []))
+
+-- kind: bit 0 G, bit 1 IM
+abbrev pub snoopExport : List ℕ → List ℕ → List ℕ → List ℕ → ℕ → ℕ → List ℕ → SnoopOut
+snoopExport unit ls cs ram address kind reply =
+    snoopBy unit reply (snoopCall (registersOf unit) ls cs ram address (bitOf kind 0) (bitOf kind 1))
+
+-- ---- a register read
+
+pub record ReadOut : Type 0 where
+  pub number : ℕ
+  pub reply : List ℕ
+
+abbrev pub readOut : ℕ → List ℕ → ReadOut
+readOut n reply = record { number = n; reply = reply }
+
+unfoldable pub readBy : List ℕ → ReadReply → ReadOut
+readBy reply r = readOut (r .number) (unless (r .number) reply (r .word ∷ []))
+
+abbrev pub readExport : List ℕ → FaultPair → ℕ → List ℕ → ReadOut
+readExport unit p offset reply = readBy reply (readCall (registersOf unit) p offset)
+
+-- ---- a register write
+
+pub record WriteOut : Type 0 where
+  pub number : ℕ
+  pub unit : List ℕ
+  pub fault : FaultPair
+  pub patc : List ℕ
+  pub lines : List ℕ
+  pub ram : List ℕ
+  pub reply : List ℕ
+
+abbrev pub writeOut : ℕ → List ℕ → FaultPair → List ℕ → List ℕ → List ℕ → List ℕ → WriteOut
+writeOut n unit p ps ls ram reply = record { number = n; unit = unit; fault = p; patc = ps; lines = ls; ram = ram; reply = reply }
+
+unfoldable pub writeBy : List ℕ → List ℕ → WriteDone → WriteOut
+writeBy unit reply d =
+    writeOut (d .reply .number) (unless (d .reply .number) unit (unitOf (d .reply .registers))) (d .pair) (d .patc) (d .lines) (d .ram)
+    (unless (d .reply .number) reply (d .reply .words ∷ []))
+
+abbrev pub writeExport : List ℕ → FaultPair → List ℕ → List ℕ → List ℕ → List ℕ → List ℕ → ℕ → ℕ → List ℕ → WriteOut
+writeExport unit p ps ls cs ram rom offset value reply =
+    writeBy unit reply (writeCall (registersOf unit) p ps ls cs ram rom offset value)
+
+-- ---- reset and restoring
+
+pub record UnitOut : Type 0 where
+  pub number : ℕ
+  pub unit : List ℕ
+  pub fault : FaultPair
+  pub patc : List ℕ
+  pub lines : List ℕ
+  pub cells : List ℕ
+
+abbrev pub unitOut : ℕ → List ℕ → FaultPair → List ℕ → List ℕ → List ℕ → UnitOut
+unitOut n unit p ps ls cs = record { number = n; unit = unit; fault = p; patc = ps; lines = ls; cells = cs }
+
+unfoldable pub unitBy : List ℕ → UnitDone → UnitOut
+unitBy unit d =
+    unitOut (d .number) (unless (d .number) unit (unitOf (d .unit .registers))) (d .unit .pair) (d .unit .patc) (d .unit .lines) (d .unit .cells)
+
+abbrev pub chipOf : List ℕ → FaultPair → List ℕ → List ℕ → List ℕ → Chip
+chipOf unit p ps ls cs = chip (registersOf unit) p ps ls cs
+
+abbrev pub resetExport : List ℕ → FaultPair → List ℕ → List ℕ → List ℕ → ℕ → UnitOut
+resetExport unit p ps ls cs number = unitBy unit (resetCall (chipOf unit p ps ls cs) number)
+
+abbrev pub restoreExport : List ℕ → FaultPair → List ℕ → List ℕ → List ℕ → List ℕ → UnitOut
+restoreExport unit p ps ls cs image = unitBy unit (restoreCall (chipOf unit p ps ls cs) image)
+
+-- ---- saving
+
+abbrev pub saveExport : List ℕ → FaultPair → List ℕ → List ℕ → List ℕ → List ℕ → Saved
+saveExport unit p ps ls cs out = saveCall (chipOf unit p ps ls cs) out
