@@ -7,15 +7,19 @@ use native.Mathlib.Omega.{arith}
 use borrow.Author.Tests.{ne-eqb}
 use lib.Dec.{ltb}
 use lib.ListN.{length}
-use Rattle.words.specs.Words.{bitOf}
+use Rattle.words.specs.Words.{pick, bitOf}
 use Rattle.words.specs.Laws.{either}
 use Rattle.memory.specs.declared.Read.{Read}
 use Rattle.memory.specs.Memory.{readOf, inRom, ramPlace}
 use Rattle.state.specs.declared.Registers.{Registers}
+use Rattle.state.specs.declared.FaultPair.{FaultPair}
+use Rattle.state.specs.Own.{ownScr}
 use Rattle.pages.specs.declared.lookup.Place.the-variants.{Nowhere}
 use Rattle.pages.specs.Pages.{segmentAt, pageAt}
 use Rattle.pages.specs.Lookup.{placeOf}
-use Rattle.unit.specs.Registers.{areaOf, withSsr, withSar}
+use Rattle.unit.specs.Registers.{areaOf, withScr, withSsr, withSar}
+use Rattle.unit.specs.Commands.{probingOf, commandOf, runOf}
+use Rattle.unit.specs.Unit.{writeOf}
 use Rattle.unit.specs.Probe.{ceOf, failedOf, pageOf, tablesOf, placedOf, probeOf}
 
 -- a failed read fails at the address that was read
@@ -56,3 +60,10 @@ module _ (u : Registers) (s : Bool) (ps ram rom : List ℕ) where
   probe-bus-error at e =
       let z : (ceOf (u .ssr) + 16384) / 1 % 2 ≡ 1 → ⊥ = λ h. omega arith in
       rw (probe-fails at e) (record { ssr = refl; attributes = omega arith; v = ne-eqb _ 1 z; sar = refl })
+
+-- that probe is what writing 20 or 24 to SCR runs
+pub probe-command : (u : Registers) (p : FaultPair) (s : Bool) (ps ls cs ram rom : List ℕ)
+    → writeOf u p ps ls cs ram rom 4 (pick s 0x24 0x20) .stored .registers ≡ probeOf (withScr u (pick s 0x24 0x20)) s ps ram rom .registers
+unfolding writeOf runOf commandOf probingOf ownScr withScr
+probe-command u p true ps ls cs ram rom = refl
+probe-command u p false ps ls cs ram rom = refl
