@@ -1,8 +1,10 @@
 -- How a unit, an access and its answer are laid out in plain arrays.
-use Prim.Native.Nat.{ℕ, _+_, _%_}
+use Prim.Native.Nat.{ℕ, zero, suc, _+_, _%_}
 use mathlib.Core.Bool.{Bool}
 use mathlib.Core.List.{List, [], _∷_}
-use lib.ListN.{length, getD}
+use mathlib.Core.Path.{_≡_, refl, sym, ap, _∙_}
+use native.Mathlib.Nat.{suc-inj, suc-ne-zero}
+use lib.ListN.{length, getD, take, drop}
 use Rattle.words.specs.Words.{pick, bitOf}
 use Rattle.state.specs.declared.Access.{Access}
 use Rattle.state.specs.declared.Answer.{Answer}
@@ -73,3 +75,36 @@ unfoldable pub snoopedOf : Snooped → ℕ
 snoopedOf Clear = 0
 snoopedOf Retry = 1
 snoopedOf Failed = 2
+
+-- ---- registers and array are one and the same
+
+abbrev wordsFrom : ℕ → ℕ → List ℕ → List ℕ
+wordsFrom i zero xs = []
+wordsFrom i (suc n) xs = at xs i ∷ wordsFrom (suc i) n xs
+
+from-next : (i n x : ℕ) (xs : List ℕ) → wordsFrom (suc i) n (x ∷ xs) ≡ wordsFrom i n xs
+from-next i zero x xs = refl
+from-next i (suc n) x xs = ap (λ (ys : List ℕ). at xs i ∷ ys) (from-next (suc i) n x xs)
+
+-- a list is its words in a row
+pub in-a-row : (n : ℕ) (xs : List ℕ) → length xs ≡ n → wordsFrom 0 n xs ≡ xs
+in-a-row zero [] e = refl
+in-a-row zero (x ∷ xs) e = absurd (suc-ne-zero _ e)
+in-a-row (suc n) [] e = absurd (suc-ne-zero _ (sym e))
+in-a-row (suc n) (x ∷ xs) e = ap (λ (ys : List ℕ). x ∷ ys) (from-next 0 n x xs ∙ in-a-row n xs (suc-inj e))
+
+pub unit-kept : (unit : List ℕ) → length unit ≡ 16 → unitOf (registersOf unit) ≡ unit
+unfolding unitOf registersOf
+unit-kept unit e = in-a-row 16 unit e
+
+abbrev withPorts : Registers → List ℕ → Registers
+withPorts u ports = record { idr = u .idr; scr = u .scr; ssr = u .ssr; sar = u .sar; sctr = u .sctr; sapr = u .sapr; uapr = u .uapr; pointer = u .pointer; ports = ports }
+
+pub registers-kept : (u : Registers) → length (u .ports) ≡ 8 → registersOf (unitOf u) ≡ u
+unfolding unitOf registersOf
+registers-kept u e = ap (withPorts u) (in-a-row 8 (u .ports) e)
+
+-- the ports are the last eight words
+pub ports-kept : (unit : List ℕ) → length unit ≡ 16 → take 8 (drop 8 unit) ≡ registersOf unit .ports
+unfolding registersOf
+ports-kept unit e = sym (ap (λ (xs : List ℕ). take 8 (drop 8 xs)) (in-a-row 16 unit e))

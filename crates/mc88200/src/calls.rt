@@ -2,6 +2,7 @@
 use crate::Called;
 use crate::Numbered;
 use crate::layout;
+use crate::quick;
 use door::AccessCall;
 use door::UnitCall;
 use door::WriteCall;
@@ -29,7 +30,8 @@ fn access_answer(unit: &mut [u32; 16], reply: &mut [u32; 24], c: AccessCall) -> 
     Called { pair, number }
 }
 
-pub fn access(
+// Any access, by the door.
+fn any_access(
     unit: &mut [u32; 16],
     pair: FaultPair,
     patc: &mut [u32; 112],
@@ -49,6 +51,49 @@ pub fn access(
     let a = layout::access(address, kind, enables, word);
     let c = door::calls::access(u, pair, patc, lines, cells, ram, rom, a);
     access_answer(unit, reply, c)
+}
+
+// One access; a read that hits is answered at once.
+pub fn access(
+    unit: &mut [u32; 16],
+    pair: FaultPair,
+    patc: &mut [u32; 112],
+    lines: &mut [u32; 1280],
+    cells: &mut [u32],
+    ram: &mut [u32],
+    rom: &[u32],
+    address: u32,
+    kind: u32,
+    enables: u32,
+    word: u32,
+    reply: &mut [u32; 24],
+) -> Called
+    ensures { λ r. ⌜ accessOut (r .number) (now (unit .exit)) (r .pair) (now (patc .exit)) (now (lines .exit)) (now (cells .exit)) (now (ram .exit)) (now (reply .exit)) ≡ accessExport (now (unit .entry)) pair (now (patc .entry)) (now (lines .entry)) (now (cells .entry)) (now (ram .entry)) (now (rom .entry)) address kind enables word (now (reply .entry)) ⌝ }
+{
+    let number = door::refusals::access(ram.len(), rom.len(), cells.len(), address, enables);
+    if number != 0 {
+        return Called { pair, number };
+    }
+    let hit = quick::look(unit, patc, lines, address, kind, enables);
+    if hit.place < 1024 {
+        let word = quick::read(lines, cells, hit, enables);
+        quick::put_word(reply, word);
+        return Called { pair, number };
+    }
+    any_access(
+        unit,
+        pair,
+        patc,
+        lines,
+        cells,
+        ram,
+        rom,
+        address,
+        kind,
+        enables,
+        word,
+        reply,
+    )
 }
 
 pub fn snoop(

@@ -1,6 +1,7 @@
 // The calls as C functions on plain arrays: include/mc88200.h says what each does.
 mod calls;
 mod layout;
+mod quick;
 
 use state::FaultPair;
 ghost use mathlib.Core.Path.{_≡_};
