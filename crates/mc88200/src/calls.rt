@@ -53,7 +53,7 @@ fn any_access(
     access_answer(unit, reply, c)
 }
 
-// One access; a read that hits is answered at once.
+// One access; one that only touches a line is answered at once.
 pub fn access(
     unit: &mut [u32; 16],
     pair: FaultPair,
@@ -76,6 +76,11 @@ pub fn access(
     }
     let hit = quick::look(unit, patc, lines, address, kind, enables);
     if hit.place < 1024 {
+        if words::bit(kind, 6) {
+            quick::write(lines, cells, hit, enables, word);
+            quick::put_written(reply);
+            return Called { pair, number };
+        }
         let word = quick::read(lines, cells, hit, enables);
         quick::put_word(reply, word);
         return Called { pair, number };

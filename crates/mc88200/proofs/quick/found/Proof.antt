@@ -3,7 +3,7 @@ use Rattle.mc88200.proofs.quick.found.Statement.{statement}
 use Rattle.mc88200.proofs.quick.found.Tie as tie
 
 returns : tie.Need-returns
-returns c = rw (c .line .ensures, c .before .before .next .given .1)
+returns c = rw (c .touched .ensures, c .before .before .next .given .1)
 
 pub found-spec : {M : Type 1} → statement M
 found-spec =

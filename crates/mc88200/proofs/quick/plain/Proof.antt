@@ -3,7 +3,7 @@ use Rattle.mc88200.proofs.quick.plain.Statement.{statement}
 use Rattle.mc88200.proofs.quick.plain.Tie as tie
 
 returns : tie.Need-returns
-returns c = rw (c .bit3 .ensures, c .before .bit2 .ensures, c .before .before .bit .ensures)
+returns c = rw (c .bit2 .ensures, c .before .bit .ensures)
 
 pub plain-spec : {M : Type 1} → statement M
-plain-spec = tie.close (tie.spec (λ c κs. search needs) (λ c κs. search needs) (λ c κs. search needs) returns)
+plain-spec = tie.close (tie.spec (λ c κs. search needs) (λ c κs. search needs) returns)
