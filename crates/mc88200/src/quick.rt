@@ -120,7 +120,7 @@ pub fn look(
 }
 
 // The word that is hit, and the line is used.
-pub fn read(lines: &mut [u32; 1280], cells: &[u32], hit: Hit, enables: u32) -> u32
+pub(crate) fn read(lines: &mut [u32; 1280], cells: &[u32], hit: Hit, enables: u32) -> u32
     requires { ⌜ (hit .place < 1024) × (length (now cells) ≡ 4096) ⌝ }
     ensures { λ r. ⌜ (r ≡ keepOf enables (wordAt (now (cells .entry)) (hit .place) (hit .address))) × (now (lines .exit) ≡ usedAt (now (lines .entry)) (hit .place)) ⌝ }
 {
@@ -130,7 +130,7 @@ pub fn read(lines: &mut [u32; 1280], cells: &[u32], hit: Hit, enables: u32) -> u
 }
 
 // The word is written to the line that is hit, which is then modified and used.
-pub fn write(lines: &mut [u32; 1280], cells: &mut [u32], hit: Hit, enables: u32, word: u32)
+pub(crate) fn write(lines: &mut [u32; 1280], cells: &mut [u32], hit: Hit, enables: u32, word: u32)
     requires { ⌜ (hit .place < 1024) × (length (now cells) ≡ 4096) ⌝ }
     ensures { λ _. ⌜ (now (lines .exit) ≡ usedAt (marked (now (lines .entry)) (hit .place) 1) (hit .place)) × (now (cells .exit) ≡ mergedAt (now (cells .entry)) (hit .place) (hit .address) enables word) ⌝ }
 {
