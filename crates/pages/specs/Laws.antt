@@ -18,7 +18,7 @@ use Rattle.words.specs.Words.{pick, bitsOf, bitOf}
 use Rattle.words.specs.Laws.{either, and-left, and-right}
 use Rattle.state.specs.Own.{ownTag, ownFrame, ownPointer, pointer-small, tag-fields, frame-fields}
 use Rattle.pages.specs.declared.Translation.{Translation}
-use Rattle.pages.specs.Pages.{same, flagOf, pageWordOf, frameWordOf}
+use Rattle.pages.specs.Pages.{same, flagOf, portHits, portKey, blockKey, pageWordOf, frameWordOf}
 use Rattle.pages.specs.Patc.{pageWord, frameWord, entryHits, entryFrom, entryOf, validOf, mapOf, freeFrom, freeOf, putOf, Loaded, loadOf}
 
 -- ---- the key: one comparison tells valid, space and page together
@@ -94,6 +94,33 @@ module _ (w address : ℕ) where
           let t : bitsOf w 1 0 ≡ 1 = omega (arith, mod-pow-add w 1 1) in
           let r : bitsOf w 31 12 ≡ bitsOf address 31 12 = third false e in
           rw (t, r) (eq-eqb (bitsOf address 31 12 * 4096 + 1) (bitsOf address 31 12 * 4096 + 0 + 1) (omega arith))
+
+-- a flag is its weight times 0 or 1
+pub flag-bit : (b : Bool) (weight : ℕ) → (flagOf b weight ≡ weight * flagOf b 1) × (flagOf b 1 < 2)
+flag-bit true weight = (omega arith, omega arith)
+flag-bit false weight = (omega arith, omega arith)
+
+alike : (x y k m n : ℕ) → m ≡ x * 524288 + k → n ≡ y * 524288 + k → eqb m n ≡ eqb x y
+alike x y k m n e f =
+    both-ways _ _ (λ t. let h : m ≡ n = eqb-true _ _ t in eq-eqb x y (omega arith)) (λ t. let h : x ≡ y = eqb-true _ _ t in eq-eqb m n (omega arith))
+
+-- a port's three tests at once
+parts : (x y a b : ℕ) (s : Bool) → a < 2 → b < 2 → eqb (x * 524288 + a * 32 + b) (y * 524288 + flagOf s 32 + 1) ≡ (eqb b 1 && same (eqb a 1) s && eqb x y)
+parts x y zero zero true la lb = ne-eqb (x * 524288 + 0 * 32 + 0) (y * 524288 + 32 + 1) (λ e. omega arith)
+parts x y zero zero false la lb = ne-eqb (x * 524288 + 0 * 32 + 0) (y * 524288 + 0 + 1) (λ e. omega arith)
+parts x y zero (suc zero) true la lb = ne-eqb (x * 524288 + 0 * 32 + 1) (y * 524288 + 32 + 1) (λ e. omega arith)
+parts x y zero (suc zero) false la lb = alike x y 1 (x * 524288 + 0 * 32 + 1) (y * 524288 + 0 + 1) (omega arith) (omega arith)
+parts x y zero (suc (suc b)) s la lb = absurd (omega arith)
+parts x y (suc zero) zero true la lb = ne-eqb (x * 524288 + 1 * 32 + 0) (y * 524288 + 32 + 1) (λ e. omega arith)
+parts x y (suc zero) zero false la lb = ne-eqb (x * 524288 + 1 * 32 + 0) (y * 524288 + 0 + 1) (λ e. omega arith)
+parts x y (suc zero) (suc zero) true la lb = alike x y 33 (x * 524288 + 1 * 32 + 1) (y * 524288 + 32 + 1) (omega arith) (omega arith)
+parts x y (suc zero) (suc zero) false la lb = ne-eqb (x * 524288 + 1 * 32 + 1) (y * 524288 + 0 + 1) (λ e. omega arith)
+parts x y (suc zero) (suc (suc b)) s la lb = absurd (omega arith)
+parts x y (suc (suc a)) b s la lb = absurd (omega arith)
+
+pub port-key : (port address : ℕ) (s : Bool) → eqb (portKey port) (blockKey address s) ≡ portHits port address s
+unfolding portKey blockKey portHits
+port-key port address s = parts (bitsOf port 31 19) (bitsOf address 31 19) (bitsOf port 5 5) (bitsOf port 0 0) s (omega arith) (omega arith)
 
 -- ---- lookup
 
@@ -290,11 +317,6 @@ pub word-own : (address : ℕ) (s : Bool) → ownTag (pageWordOf address s) ≡ 
 unfolding pageWordOf
 word-own address true = let e : bitsOf address 31 12 * 4096 + 2 + 1 ≡ bitsOf address 31 12 * 4096 + 3 = omega arith in rw e (tag-fields (bitsOf address 31 12) 3 (omega arith) (omega arith))
 word-own address false = let e : bitsOf address 31 12 * 4096 + 0 + 1 ≡ bitsOf address 31 12 * 4096 + 1 = omega arith in rw e (tag-fields (bitsOf address 31 12) 1 (omega arith) (omega arith))
-
--- a flag is its weight times 0 or 1
-pub flag-bit : (b : Bool) (weight : ℕ) → (flagOf b weight ≡ weight * flagOf b 1) × (flagOf b 1 < 2)
-flag-bit true weight = (omega arith, omega arith)
-flag-bit false weight = (omega arith, omega arith)
 
 fields : (a p q r s m w : ℕ) → a * 4096 + 512 * p + 256 * q + 128 * r + 64 * s + 16 * m + 4 * w ≡ a * 4096 + (8 * p + 4 * q + 2 * r + s) * 64 + m * 16 + w * 4
 fields a p q r s m w = omega arith

@@ -10,6 +10,10 @@ use Rattle.pages.specs.declared.Translation.{Translation}
 abbrev pub same : Bool → Bool → Bool
 same a b = Bool·beq a b
 
+-- a flag's weight where it is set
+abbrev pub flagOf : Bool → ℕ → ℕ
+flagOf b weight = pick b weight 0
+
 -- TE clear: the address stays as it is, with the area pointer's WT, G, CI
 unfoldable pub unmappedOf : ℕ → ℕ → Translation
 unmappedOf area address = record { address = address; wt = bitOf area 9; sp = false; g = bitOf area 7; ci = bitOf area 6; m = false; u = false; wp = false }
@@ -17,6 +21,13 @@ unmappedOf area address = record { address = address; wt = bitOf area 9; sp = fa
 -- BATC: valid, S equal to the access, bits 31-19 equal
 unfoldable pub portHits : ℕ → ℕ → Bool → Bool
 portHits port address s = bitOf port 0 && same (bitOf port 5) s && eqb (bitsOf port 31 19) (bitsOf address 31 19)
+
+-- the three tests at once: a port's block, S and V, and those that an address asks for
+unfoldable pub portKey : ℕ → ℕ
+portKey port = bitsOf port 31 19 * 524288 + bitsOf port 5 5 * 32 + bitsOf port 0 0
+
+unfoldable pub blockKey : ℕ → Bool → ℕ
+blockKey address s = bitsOf address 31 19 * 524288 + flagOf s 32 + 1
 
 -- lowest port first; 0, which is not valid, stands for none
 unfoldable pub portOf : List ℕ → ℕ → Bool → ℕ
@@ -93,9 +104,6 @@ describedOf page write = pick write (withM (withU page)) (withU page)
 -- .. and the translation as it now stands
 unfoldable pub renewedOf : Translation → Bool → Translation
 renewedOf t write = record { address = t .address; wt = t .wt; sp = t .sp; g = t .g; ci = t .ci; m = t .m || write; u = true; wp = t .wp }
-
-abbrev pub flagOf : Bool → ℕ → ℕ
-flagOf b weight = pick b weight 0
 
 -- an entry's words: page with S at bit 1 and V at bit 0, then frame with WT, SP, G, CI, M, WP
 unfoldable pub pageWordOf : ℕ → Bool → ℕ

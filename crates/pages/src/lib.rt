@@ -5,7 +5,7 @@ pub mod tables;
 
 ghost use mathlib.Core.Path.{_≡_};
 ghost use Prim.Native.Nat.{_<_};
-ghost use Rattle.pages.specs.Pages.{portHits, portOf, blockOf, unmappedOf, pagedOf, protectionOf};
+ghost use Rattle.pages.specs.Pages.{portKey, blockKey, portOf, blockOf, unmappedOf, pagedOf, protectionOf};
 
 // A physical address with its attributes.
 pub struct Translation {
@@ -35,21 +35,28 @@ pub fn unmapped(area: u32, address: u32) -> Translation
     }
 }
 
-fn port_hits(port: u32, address: u32, supervisor: bool) -> bool
-    ensures { λ r. ⌜ r ≡ portHits port address supervisor ⌝ }
+// A port's block, S and V, to be compared at once.
+fn port_key(port: u32) -> u32
+    ensures { λ r. ⌜ r ≡ portKey port ⌝ }
 {
-    words::bit(port, 0)
-        & (words::bit(port, 5) == supervisor)
-        & (words::bits(port, 31, 19) == words::bits(address, 31, 19))
+    words::bits(port, 31, 19) * 524288 + words::bits(port, 5, 5) * 32 + words::bits(port, 0, 0)
+}
+
+// .. of a port that an address hits.
+fn block_key(address: u32, supervisor: bool) -> u32
+    ensures { λ r. ⌜ r ≡ blockKey address supervisor ⌝ }
+{
+    words::bits(address, 31, 19) * 524288 + tables::flag(supervisor, 32) + 1
 }
 
 // The word of the lowest port that an address hits, or 0: no port that is not valid hits.
 pub fn port(ports: &[u32], address: u32, supervisor: bool) -> u32
     ensures { λ r. ⌜ r ≡ portOf (now (ports .entry)) address supervisor ⌝ }
 {
+    let key = block_key(address, supervisor);
     let mut n: usize = 0;
     while n < ports.len() {
-        if port_hits(ports[n], address, supervisor) {
+        if port_key(ports[n]) == key {
             return ports[n];
         }
         n += 1;
