@@ -77,11 +77,11 @@ pub fn access(
     let hit = quick::look(unit, patc, lines, address, kind, enables);
     if hit.place < 1024 {
         if words::bit(kind, 6) {
-            quick::write(lines, cells, hit, enables, word);
+            hits::write(lines, cells, hit, enables, word);
             quick::put_written(reply);
             return Called { pair, number };
         }
-        let word = quick::read(lines, cells, hit, enables);
+        let word = hits::read(lines, cells, hit, enables);
         quick::put_word(reply, word);
         return Called { pair, number };
     }

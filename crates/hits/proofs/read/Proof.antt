@@ -1,6 +1,6 @@
 use borrow.Author.Needs.{needs}
-use Rattle.mc88200.proofs.quick.read.Statement.{statement}
-use Rattle.mc88200.proofs.quick.read.Tie as tie
+use Rattle.hits.proofs.read.Statement.{statement}
+use Rattle.hits.proofs.read.Tie as tie
 
 returns : tie.Need-returns
 returns c = (rw (c .keep .ensures, c .before .before .before .word .ensures), c .before .note-use .ensures)

@@ -1,12 +1,15 @@
 use borrow.Author.Needs.{needs}
-use Rattle.mc88200.proofs.quick.kept.Statement.{statement}
+use Rattle.hits.proofs.kept.Statement.{statement}
+use Rattle.hits.specs.Hits.{keptOf}
 use borrow.Author.Tests.{lt-ltb, le-ltb}
-use Rattle.mc88200.proofs.quick.kept.Tie as tie
+use Rattle.hits.proofs.kept.Tie as tie
 
 returns : tie.Need-returns
+unfolding keptOf
 returns c = rw (c .state .ensures .0, c .before .tag-word .ensures, lt-ltb _ _ (c .before .before .if1 .taken))
 
 returns-2 : tie.Need-returns-2
+unfolding keptOf
 returns-2 c = rw (le-ltb _ _ (c .if1 .left))
 
 pub kept-spec : {M : Type 1} → statement M

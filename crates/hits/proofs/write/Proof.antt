@@ -1,6 +1,6 @@
 use borrow.Author.Needs.{needs}
-use Rattle.mc88200.proofs.quick.write.Statement.{statement}
-use Rattle.mc88200.proofs.quick.write.Tie as tie
+use Rattle.hits.proofs.write.Statement.{statement}
+use Rattle.hits.proofs.write.Tie as tie
 
 returns : tie.Need-returns
 returns c = (rw (c .before .before .before .before .note-use .ensures, c .before .before .before .before .before .before .set-state .ensures), c .before .before .merge .ensures)
