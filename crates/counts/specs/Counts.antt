@@ -27,9 +27,9 @@ use Rattle.pages.specs.Pages.{segmentAt, pageAt}
 use Rattle.flight.specs.Course.{noTransaction}
 use Rattle.flight.specs.Ops.{Got, Shown, Sent, Ops}
 use Rattle.flight.specs.Steps.{Scene, faulted, noted, withLines, moves, storeOf, readOf, fillOf, copybackOf, missAt, writeOf, singleX, singleOf, inhibitedOf, cacheOf, walks, loadedOf, finishOf, pageOf, searchOf, goOf, accessOf, opening}
-use Rattle.unit.specs.Alone.{memory, alone}
+use Rattle.driver.specs.Alone.{memory, alone}
 use Rattle.unit.specs.Answers.{wordsAt}
-use Rattle.unit.specs.Registers.{areaOf}
+use Rattle.commands.specs.Registers.{areaOf}
 use Rattle.unit.specs.Unit.{mappedOf, accessOf as unitAccess}
 use Rattle.counts.specs.Listed.{sumOf, total-sum, Going, more, Counted, ends, went, failed, Moves, Fair}
 

@@ -17,10 +17,10 @@ use Rattle.state.specs.Own.{ownScr}
 use Rattle.pages.specs.declared.lookup.Place.the-variants.{Nowhere}
 use Rattle.pages.specs.Pages.{segmentAt, pageAt}
 use Rattle.pages.specs.Lookup.{placeOf}
-use Rattle.unit.specs.Registers.{areaOf, withScr, withSsr, withSar}
-use Rattle.unit.specs.Commands.{probingOf, commandOf, runOf}
+use Rattle.commands.specs.Registers.{areaOf, withScr, withSsr, withSar}
+use Rattle.commands.specs.Commands.{probingOf, commandOf, runOf}
 use Rattle.unit.specs.Unit.{writeOf}
-use Rattle.unit.specs.Probe.{ceOf, failedOf, pageOf, tablesOf, placedOf, probeOf}
+use Rattle.commands.specs.Probe.{ceOf, failedOf, pageOf, tablesOf, placedOf, probeOf}
 
 -- a failed read fails at the address that was read
 read-failing : (ram rom : List ℕ) (at : ℕ) → readOf ram rom at .moved .ok ≡ false → readOf ram rom at .moved .failing ≡ at

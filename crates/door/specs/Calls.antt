@@ -15,7 +15,7 @@ use Rattle.flush.specs.declared.snoop.Snooped.{Snooped}
 use Rattle.flush.specs.declared.snoop.Snooped.the-variants.{Clear}
 use Rattle.unit.specs.Answers.{plainOf}
 use Rattle.unit.specs.Fresh.{clearedOf, freshLines}
-use Rattle.unit.specs.Registers.{readOf}
+use Rattle.commands.specs.Registers.{readOf}
 use Rattle.unit.specs.Unit.{Kept, Whole, Snooping, writeOf, accessOf, snoopOf}
 use Rattle.image.specs.Chip.{Chip, chip}
 use Rattle.image.specs.Image.{Saved, saved, saveOf, readOf as unitAt}

@@ -9,6 +9,7 @@ use crate::UnitReply;
 use crate::WriteCall;
 use crate::WriteReply;
 use crate::refusals;
+use commands::registers::Stored;
 use flush::snoop::Snooped;
 use image::Restored;
 use state::Access;
@@ -17,7 +18,6 @@ use state::Outcome;
 use state::Registers;
 use unit::Watched;
 use unit::answers::Accessed;
-use unit::registers::Stored;
 ghost use mathlib.Core.Path.{_≡_};
 ghost use lib.ListN.{length};
 ghost use Rattle.image.specs.Chip.{chip};
@@ -120,7 +120,7 @@ pub fn read_register(u: Registers, pair: FaultPair, offset: u32) -> ReadReply
     if number != 0 {
         return ReadReply { number, word: 0 };
     }
-    let word = unit::registers::read(u, pair, offset);
+    let word = commands::registers::read(u, pair, offset);
     ReadReply { number: 0, word }
 }
 

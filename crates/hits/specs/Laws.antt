@@ -20,8 +20,8 @@ use Rattle.pages.specs.Pages.{unmappedOf, portOf, blockOf, pagedOf, protectionO
 use Rattle.pages.specs.Patc.{frameWord, entryOf}
 use Rattle.pages.specs.Lookup.{placeOf, guardedOf, enteredOf, judgeOf}
 use Rattle.flight.specs.Steps.{Scene, goOf, cacheOf, readOf, writeOf, opening, accessOf as stepsOf}
-use Rattle.unit.specs.Alone.{Memory, memory, alone}
-use Rattle.unit.specs.Registers.{areaOf, withPointer}
+use Rattle.driver.specs.Alone.{Memory, memory, alone}
+use Rattle.commands.specs.Registers.{areaOf, withPointer}
 use Rattle.unit.specs.Answers.{totalOf, faultOf, plainOf}
 use Rattle.unit.specs.Unit.{Whole, whole, endedBy, mappedOf, accessOf}
 use Rattle.hits.specs.declared.Way.{Way}

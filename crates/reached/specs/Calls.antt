@@ -26,11 +26,11 @@ use Rattle.flush.specs.declared.snoop.Snooped.{Snooped}
 use Rattle.flush.specs.declared.snoop.Snooped.the-variants.{Clear, Retry, Failed}
 use Rattle.flush.specs.Flush.{Sweep, swept, coversOf, copiesOf, dropsOf, afterOf, copiedOf, lineOf, sweepOf}
 use Rattle.flush.specs.Snoop.{Snoop, yieldOf, retriedOf, hitBy, snoopOf as lineSnoop}
-use Rattle.unit.specs.declared.commands.Command.{Command}
-use Rattle.unit.specs.declared.commands.Command.the-variants.{Nothing, Flush, Probe, Clear as ClearEntries}
-use Rattle.unit.specs.Alone.{memory}
-use Rattle.unit.specs.Registers.{areaOf, withScr}
-use Rattle.unit.specs.Commands.{Commanded, commandOf, flushOf, runOf}
+use Rattle.commands.specs.declared.Command.{Command}
+use Rattle.commands.specs.declared.Command.the-variants.{Nothing, Flush, Probe, Clear as ClearEntries}
+use Rattle.driver.specs.Alone.{memory}
+use Rattle.commands.specs.Registers.{areaOf, withScr}
+use Rattle.commands.specs.Commands.{Commanded, commandOf, flushOf, runOf}
 use Rattle.unit.specs.Answers.{faultOf, plainOf, failedOf, writtenOf}
 use Rattle.unit.specs.Unit.{Kept, writeOf, Controlled, reachesOf, controlOf, Whole, mappedOf, accessOf, afterSnoop, snoopOf}
 use Rattle.fields.specs.Fields.{Words}

@@ -19,10 +19,10 @@ use Rattle.pages.specs.Pages.{flagOf, unmappedOf, portOf, blockOf, pagedOf, seg
 use Rattle.pages.specs.Patc.{entryOf, frameWord}
 use Rattle.pages.specs.Laws.{flag-bit}
 use Rattle.pages.specs.Lookup.{placeOf}
-use Rattle.unit.specs.declared.registers.Ran.{Ran}
-use Rattle.unit.specs.Registers.{areaOf, withScr, withSsr, withSar, withSctr, withSapr, withUapr, withPointer, withPort, setFaultOf, setPortOf, setRegisterOf}
-use Rattle.unit.specs.Probe.{ceOf, statusOf, foundOf, missingOf, failedOf, pageOf, tablesOf, placedOf, probeOf}
-use Rattle.unit.specs.Commands.{flushedOf}
+use Rattle.commands.specs.declared.registers.Ran.{Ran}
+use Rattle.commands.specs.Registers.{areaOf, withScr, withSsr, withSar, withSctr, withSapr, withUapr, withPointer, withPort, setFaultOf, setPortOf, setRegisterOf}
+use Rattle.commands.specs.Probe.{ceOf, statusOf, foundOf, missingOf, failedOf, pageOf, tablesOf, placedOf, probeOf}
+use Rattle.commands.specs.Commands.{flushedOf}
 use Rattle.reached.specs.Good.{GoodRegisters, GoodPair}
 use Rattle.reached.specs.Stores.{words-set, read-fails}
 

@@ -30,7 +30,7 @@ use Rattle.pages.specs.Patc.{frameWord, entryOf, putOf as putEntry}
 use Rattle.pages.specs.Laws.{entry-le}
 use Rattle.pages.specs.Lookup.{placeOf, guardedOf, enteredOf, judgeOf, walkedOf}
 use Rattle.flight.specs.Steps.{Scene, Ended, ended, noted, withLines, withCache, withPatc, moves, storeOf, readOf, fillOf, copybackOf, missAt, writeOf, singleX, singleOf, inhibitedOf, cacheOf, walks, loadedOf, finishOf, pageOf, searchOf, goOf, accessOf}
-use Rattle.unit.specs.Alone.{Memory, memory, alone}
+use Rattle.driver.specs.Alone.{Memory, memory, alone}
 use Rattle.fields.specs.Fields.{Words}
 use Rattle.reached.specs.Good.{GoodEntries, GoodLines, GoodCells}
 use Rattle.reached.specs.Directory.{marked-good, dropped-good, filled-good, filled-valid, used-good, hit-of, miss-of}

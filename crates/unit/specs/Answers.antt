@@ -12,8 +12,8 @@ use Rattle.state.specs.Outcome.{pairOf}
 use Rattle.flight.specs.declared.course.Flight.{Flight}
 use Rattle.flight.specs.Course.{noTransaction}
 use Rattle.unit.specs.declared.answers.Accessed.{Accessed}
-use Rattle.unit.specs.declared.registers.Stored.{Stored}
-use Rattle.unit.specs.Registers.{withPointer}
+use Rattle.commands.specs.declared.registers.Stored.{Stored}
+use Rattle.commands.specs.Registers.{withPointer}
 
 abbrev pub wordsAt : List Transaction → ℕ → ℕ
 wordsAt list n = getD list n noTransaction .words

@@ -10,8 +10,8 @@ use Rattle.flight.specs.Cache.{Cached, cached}
 use Rattle.flight.specs.Begin.{beginOf}
 use Rattle.flight.specs.Ops.{System, system, onCached, leftOf}
 use Rattle.flight.specs.Follows.{endOf, follows}
-use Rattle.unit.specs.Alone.{Memory, memory, alone}
-use Rattle.unit.specs.Registers.{areaOf}
+use Rattle.driver.specs.Alone.{Memory, memory, alone}
+use Rattle.commands.specs.Registers.{areaOf}
 use Rattle.unit.specs.Answers.{flownOf}
 use Rattle.unit.specs.Unit.{whole, endedBy, mappedOf}
 

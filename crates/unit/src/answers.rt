@@ -1,5 +1,5 @@
 // The answer to an access, with the registers and the fault pair that it leaves.
-use crate::registers::Stored;
+use commands::registers::Stored;
 use flight::course::Flight;
 use state::Answer;
 use state::Fault;
@@ -96,7 +96,7 @@ pub fn flown(u: Registers, pair: FaultPair, f: Flight) -> Accessed
         count: c.count,
         words: total(list),
     };
-    let registers = crate::registers::with_pointer(u, c.pointer);
+    let registers = commands::registers::with_pointer(u, c.pointer);
     Accessed {
         registers,
         pair: fault(pair, outcome),

@@ -1,0 +1,3 @@
+pub mod Registers
+pub mod Probe
+pub mod Commands
