@@ -1,76 +1,16 @@
 // The public calls: a numbered refusal first, then the unit. The fault pair is lent, and updated where it stands.
-pub mod calls;
-pub mod refusals;
-
-use flush::snoop::Snooped;
+use calls::AccessReply;
+use calls::ReadReply;
+use calls::SnoopReply;
+use calls::UnitReply;
+use calls::WriteReply;
 use state::Access;
-use state::Answer;
 use state::FaultPair;
 use state::Registers;
 ghost use mathlib.Core.Path.{_≡_};
 ghost use Rattle.image.specs.Chip.{chip};
 ghost use Rattle.image.specs.Image.{saved};
-ghost use Rattle.door.specs.Calls.{pairWith, accessDone, accessCall, snoopDone, snoopCall, readCall, writeDone, writeCall, unitDone, resetCall, restoreCall, saveCall};
-
-// An access: 0 or a refusal's number, the registers, and the answer.
-pub struct AccessReply {
-    pub number: u32,
-    pub registers: Registers,
-    pub answer: Answer,
-}
-
-pub struct AccessCall {
-    pub pair: FaultPair,
-    pub reply: AccessReply,
-}
-
-// A snoop, which touches no fault pair.
-pub struct SnoopReply {
-    pub number: u32,
-    pub registers: Registers,
-    pub answer: Snooped,
-}
-
-pub struct ReadReply {
-    pub number: u32,
-    pub word: u32,
-}
-
-// A register write, and the words that its command moved.
-pub struct WriteReply {
-    pub number: u32,
-    pub registers: Registers,
-    pub words: u32,
-}
-
-pub struct WriteCall {
-    pub pair: FaultPair,
-    pub reply: WriteReply,
-}
-
-// Reset and restoring.
-pub struct UnitReply {
-    pub number: u32,
-    pub registers: Registers,
-}
-
-pub struct UnitCall {
-    pub pair: FaultPair,
-    pub reply: UnitReply,
-}
-
-// Saving.
-pub struct SaveReply {
-    pub number: u32,
-}
-
-// The one function that stores through the lent pair.
-pub fn store(pair: &mut FaultPair, status: u32, address: u32)
-    ensures { λ _. ⌜ now (pair .exit) ≡ pairWith status address ⌝ }
-{
-    pair.status = status;
-    pair.address = address;
-}
+ghost use Rattle.calls.specs.Calls.{accessDone, accessCall, snoopDone, snoopCall, readCall, writeDone, writeCall, unitDone, resetCall, restoreCall, saveCall};
 
 // One bus access: refuses 1 to 5.
 pub fn access(
@@ -86,7 +26,7 @@ pub fn access(
     ensures { λ r. ⌜ accessDone r (now (fault .exit)) (now (patc .exit)) (now (lines .exit)) (now (cells .exit)) (now (ram .exit)) ≡ accessCall u (now (fault .entry)) (now (patc .entry)) (now (lines .entry)) (now (cells .entry)) (now (ram .entry)) (now (rom .entry)) access ⌝ }
 {
     let r = calls::access(u, *fault, patc, lines, cells, ram, rom, access);
-    store(fault, r.pair.status, r.pair.address);
+    calls::store(fault, r.pair.status, r.pair.address);
     r.reply
 }
 
@@ -128,7 +68,7 @@ pub fn write_register(
     ensures { λ r. ⌜ writeDone r (now (fault .exit)) (now (patc .exit)) (now (lines .exit)) (now (ram .exit)) ≡ writeCall u (now (fault .entry)) (now (patc .entry)) (now (lines .entry)) (now (cells .entry)) (now (ram .entry)) (now (rom .entry)) offset value ⌝ }
 {
     let r = calls::write_register(u, *fault, patc, lines, cells, ram, rom, offset, value);
-    store(fault, r.pair.status, r.pair.address);
+    calls::store(fault, r.pair.status, r.pair.address);
     r.reply
 }
 
@@ -144,7 +84,7 @@ pub fn reset(
     ensures { λ r. ⌜ unitDone r (now (fault .exit)) (now (patc .exit)) (now (lines .exit)) (now (cells .exit)) ≡ resetCall (chip u (now (fault .entry)) (now (patc .entry)) (now (lines .entry)) (now (cells .entry))) number ⌝ }
 {
     let r = calls::reset(u, *fault, patc, lines, cells, number);
-    store(fault, r.pair.status, r.pair.address);
+    calls::store(fault, r.pair.status, r.pair.address);
     r.reply
 }
 
@@ -160,7 +100,7 @@ pub fn restore(
     ensures { λ r. ⌜ unitDone r (now (fault .exit)) (now (patc .exit)) (now (lines .exit)) (now (cells .exit)) ≡ restoreCall (chip u (now (fault .entry)) (now (patc .entry)) (now (lines .entry)) (now (cells .entry))) (now (src .entry)) ⌝ }
 {
     let r = calls::restore(u, *fault, patc, lines, cells, src);
-    store(fault, r.pair.status, r.pair.address);
+    calls::store(fault, r.pair.status, r.pair.address);
     r.reply
 }
 

@@ -6,9 +6,9 @@ use Rattle.words.specs.Words.{pick, bitOf}
 use Rattle.state.specs.declared.FaultPair.{FaultPair}
 use Rattle.image.specs.Chip.{Chip, chip}
 use Rattle.image.specs.Image.{Saved}
-use Rattle.door.specs.declared.ReadReply.{ReadReply}
-use Rattle.door.specs.Calls.{AccessDone, accessCall, SnoopDone, snoopCall, readCall, WriteDone, writeCall, UnitDone, resetCall, restoreCall, saveCall}
-use Rattle.mc88200.specs.Layout.{registersOf, unitOf, accessAs, replyOf, snoopedOf}
+use Rattle.calls.specs.declared.ReadReply.{ReadReply}
+use Rattle.calls.specs.Calls.{AccessDone, accessCall, SnoopDone, snoopCall, readCall, WriteDone, writeCall, UnitDone, resetCall, restoreCall, saveCall}
+use Rattle.layout.specs.Layout.{registersOf, unitOf, accessAs, replyOf, snoopedOf}
 
 -- `next` where a call has no number, else what was there
 abbrev pub unless : ℕ → List ℕ → List ℕ → List ℕ

@@ -17,9 +17,9 @@ use Rattle.unit.specs.Unit.{accessOf}
 use Rattle.hits.specs.declared.Hit.{Hit}
 use Rattle.hits.specs.Hits.{noHit, lookOf}
 use Rattle.hits.specs.Laws.{readAt, writtenAt, touchedAt, look-right}
-use Rattle.door.specs.Refusals.{accessRefusal}
-use Rattle.door.specs.Calls.{accessTaken, accessBy as doneBy}
-use Rattle.mc88200.specs.Layout.{at, registersOf, unitOf, accessAs, bitsOf, replyOf, unit-kept}
+use Rattle.refusals.specs.Refusals.{accessRefusal}
+use Rattle.calls.specs.Calls.{accessTaken, accessBy as doneBy}
+use Rattle.layout.specs.Layout.{at, registersOf, unitOf, accessAs, bitsOf, replyOf, unit-kept}
 use Rattle.mc88200.specs.Exports.{AccessOut, accessOut, accessBy, accessExport}
 
 -- an access that is neither idle nor locked, outside control space

@@ -1,6 +1,5 @@
 // The calls as C functions on plain arrays: include/mc88200.h says what each does.
-mod calls;
-mod layout;
+mod exports;
 mod quick;
 
 use state::FaultPair;
@@ -30,8 +29,8 @@ pub extern "C" fn mc88200_reset(
 ) -> u32
     ensures { λ r. ⌜ unitOut r (now (unit .exit)) (now (fault .exit)) (now (patc .exit)) (now (lines .exit)) (now (cells .exit)) ≡ resetExport (now (unit .entry)) (now (fault .entry)) (now (patc .entry)) (now (lines .entry)) (now (cells .entry)) number ⌝ }
 {
-    let r = calls::reset(unit, *fault, patc, lines, cells, number);
-    door::store(fault, r.pair.status, r.pair.address);
+    let r = exports::reset(unit, *fault, patc, lines, cells, number);
+    calls::store(fault, r.pair.status, r.pair.address);
     r.number
 }
 
@@ -52,7 +51,7 @@ pub extern "C" fn mc88200_access(
 ) -> u32
     ensures { λ r. ⌜ accessOut r (now (unit .exit)) (now (fault .exit)) (now (patc .exit)) (now (lines .exit)) (now (cells .exit)) (now (ram .exit)) (now (reply .exit)) ≡ accessExport (now (unit .entry)) (now (fault .entry)) (now (patc .entry)) (now (lines .entry)) (now (cells .entry)) (now (ram .entry)) (now (rom .entry)) address kind enables word (now (reply .entry)) ⌝ }
 {
-    let r = calls::access(
+    let r = exports::access(
         unit,
         *fault,
         patc,
@@ -66,7 +65,7 @@ pub extern "C" fn mc88200_access(
         word,
         reply,
     );
-    door::store(fault, r.pair.status, r.pair.address);
+    calls::store(fault, r.pair.status, r.pair.address);
     r.number
 }
 
@@ -82,7 +81,7 @@ pub extern "C" fn mc88200_snoop(
 ) -> u32
     ensures { λ r. ⌜ snoopOut r (now (unit .exit)) (now (lines .exit)) (now (ram .exit)) (now (reply .exit)) ≡ snoopExport (now (unit .entry)) (now (lines .entry)) (now (cells .entry)) (now (ram .entry)) address kind (now (reply .entry)) ⌝ }
 {
-    calls::snoop(unit, lines, cells, ram, address, kind, reply)
+    exports::snoop(unit, lines, cells, ram, address, kind, reply)
 }
 
 #[no_mangle]
@@ -94,7 +93,7 @@ pub extern "C" fn mc88200_read_register(
 ) -> u32
     ensures { λ r. ⌜ readOut r (now (reply .exit)) ≡ readExport (now (unit .entry)) (now (fault .entry)) offset (now (reply .entry)) ⌝ }
 {
-    let r = calls::read_register(unit, *fault, offset, reply);
+    let r = exports::read_register(unit, *fault, offset, reply);
     r.number
 }
 
@@ -113,7 +112,7 @@ pub extern "C" fn mc88200_write_register(
 ) -> u32
     ensures { λ r. ⌜ writeOut r (now (unit .exit)) (now (fault .exit)) (now (patc .exit)) (now (lines .exit)) (now (ram .exit)) (now (reply .exit)) ≡ writeExport (now (unit .entry)) (now (fault .entry)) (now (patc .entry)) (now (lines .entry)) (now (cells .entry)) (now (ram .entry)) (now (rom .entry)) offset value (now (reply .entry)) ⌝ }
 {
-    let r = calls::write_register(
+    let r = exports::write_register(
         unit,
         *fault,
         patc,
@@ -125,7 +124,7 @@ pub extern "C" fn mc88200_write_register(
         value,
         reply,
     );
-    door::store(fault, r.pair.status, r.pair.address);
+    calls::store(fault, r.pair.status, r.pair.address);
     r.number
 }
 
@@ -140,7 +139,7 @@ pub extern "C" fn mc88200_save(
 ) -> u32
     ensures { λ r. ⌜ saved r (now (out .exit)) ≡ saveExport (now (unit .entry)) (now (fault .entry)) (now (patc .entry)) (now (lines .entry)) (now (cells .entry)) (now (out .entry)) ⌝ }
 {
-    let r = calls::save(unit, *fault, patc, lines, cells, out);
+    let r = exports::save(unit, *fault, patc, lines, cells, out);
     r.number
 }
 
@@ -155,7 +154,7 @@ pub extern "C" fn mc88200_restore(
 ) -> u32
     ensures { λ r. ⌜ unitOut r (now (unit .exit)) (now (fault .exit)) (now (patc .exit)) (now (lines .exit)) (now (cells .exit)) ≡ restoreExport (now (unit .entry)) (now (fault .entry)) (now (patc .entry)) (now (lines .entry)) (now (cells .entry)) (now (image .entry)) ⌝ }
 {
-    let r = calls::restore(unit, *fault, patc, lines, cells, image);
-    door::store(fault, r.pair.status, r.pair.address);
+    let r = exports::restore(unit, *fault, patc, lines, cells, image);
+    calls::store(fault, r.pair.status, r.pair.address);
     r.number
 }

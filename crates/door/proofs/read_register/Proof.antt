@@ -1,23 +1,23 @@
 -- `door::read_register` meets its contract: a walk of its MIR, by hand. What is lent by reference to a struct is opened, and stays open over the call of `read_register`, to which the rest is passed on as it came.
 -- All that the proof knows of `read_register` is that it meets its contract.
 -- Assumes nothing.
-use Rattle.door.proofs.Words.{_≡_, refl, ap, ℕ, _<_, _^_, [], _∷_, List, URA, fullShare, named, w32, Val, vint, vptr, SProp, ent, emp, via, fst∗, id⊢, fat, flft, Memory, Routine, Heap, Calls, Loops, WpFn, Tables, Atoms, Fun, givenOf, tables, tablesOf, Given, ‵, raw, _⊛_, _$_, _∵_, !, qed, by, move, keep, drop, use1, split, join, pick, rewrite, fsplit, fsplit3, fjoin, suffices, frame, await, done, look, look-raw, init, forget, stop, hop, from, load, of-opd, and-then, no-more, assigns, land, returns, enter, alloc1, alloc0, params1, pass1, pass0, free1, free0, FmC, fmOf, owns, Is, shows, valss, mem, uint-vals, uint-tells, RefT, ptr-vals, shr-tells, only, looks, shuts, owned, peeks, heard, nothing, spelt, AreAll, LL-fields, Args, Vals, onEntry, Lfts, Shares, AllOutlive, toks, typesAt, Contract, Triple, Meets, tripleOf, calls-at, entered, cited, says, walkOf}
+use Rattle.calls.proofs.Words.{_≡_, refl, ap, ℕ, _<_, _^_, [], _∷_, List, URA, fullShare, named, w32, Val, vint, vptr, SProp, ent, emp, via, fst∗, id⊢, fat, flft, Memory, Routine, Heap, Calls, Loops, WpFn, Tables, Atoms, Fun, givenOf, tables, tablesOf, Given, ‵, raw, _⊛_, _$_, _∵_, !, qed, by, move, keep, drop, use1, split, join, pick, rewrite, fsplit, fsplit3, fjoin, suffices, frame, await, done, look, look-raw, init, forget, stop, hop, from, load, of-opd, and-then, no-more, assigns, land, returns, enter, alloc1, alloc0, params1, pass1, pass0, free1, free0, FmC, fmOf, owns, Is, shows, valss, mem, uint-vals, uint-tells, RefT, ptr-vals, shr-tells, only, looks, shuts, owned, peeks, heard, nothing, spelt, AreAll, LL-fields, Args, Vals, onEntry, Lfts, Shares, AllOutlive, toks, typesAt, Contract, Triple, Meets, tripleOf, calls-at, entered, cited, says, walkOf}
 use denote.Struct.Laws as LL
-use Rattle.door.proofs.Door.{stayed, ends, meets, Returned}
+use Rattle.calls.proofs.Door.{stayed, ends, meets, Returned}
 use Rattle.state.specs.declared.Registers.{Registers as RegistersR}
 use Rattle.state.proofs.Registers as Registers
 use Rattle.state.proofs.Registers.Laws as Registers′
 use Rattle.state.specs.declared.FaultPair.{FaultPair as FaultPairR}
 use Rattle.state.proofs.FaultPair as FaultPair
 use Rattle.state.proofs.FaultPair.Laws as FaultPair′
-use Rattle.door.specs.declared.ReadReply.{ReadReply as ReadReplyR}
-use Rattle.door.proofs.ReadReply as ReadReply
-use Rattle.door.proofs.ReadReply.Laws as ReadReply′
-use Rattle.door.specs.Calls.{readCall}
-use Rattle.door.proofs.calls.read_register as core
-use Rattle.door.proofs.calls.read_register.Symbol as core-def
-use Rattle.door.proofs.calls.read_register.Symbol.{name as #core}
-use Rattle.door.proofs.calls.read_register.Met as core-thm
+use Rattle.calls.specs.declared.ReadReply.{ReadReply as ReadReplyR}
+use Rattle.calls.proofs.ReadReply as ReadReply
+use Rattle.calls.proofs.ReadReply.Laws as ReadReply′
+use Rattle.calls.specs.Calls.{readCall}
+use Rattle.calls.proofs.read_register as core
+use Rattle.calls.proofs.read_register.Symbol as core-def
+use Rattle.calls.proofs.read_register.Symbol.{name as #core}
+use Rattle.calls.proofs.read_register.Met as core-thm
 use Rattle.door.proofs.read_register.Key.{name as #door}
 use Rattle.door.proofs.read_register as f
 use Rattle.door.proofs.read_register.Statement as stated
@@ -92,4 +92,4 @@ read-register-spec 𝓤 H 𝓜 𝓖 𝓡 =
     entered 𝓤 H (tripleOf 𝓤 H (𝓖 .A) f.signature (f.spec 𝓤 H (𝓖 .A) (𝓜 .mem) (𝓡 .run)))
     (tables 𝓤 H 𝓜 𝓡 code.env .C) (tables 𝓤 H 𝓜 𝓡 code.env .Λ) #door code.function (code.unfolded 𝓤 H 𝓜 𝓡)
     (read-register-meets 𝓤 H (𝓖 .A) (givenOf 𝓤 H 𝓜 𝓖) (𝓜 .mem) (𝓡 .run) (tablesOf 𝓤 H 𝓜 (tables 𝓤 H 𝓜 𝓡 code.env))
-    (cited 𝓤 H (CoreC 𝓤 H (𝓖 .A) (𝓜 .mem) (𝓡 .run)) 𝓜 𝓡 code.env #core core-def.routine code.calls-door·calls·read-register (core-thm.met 𝓤 H 𝓜 𝓖 𝓡)))
+    (cited 𝓤 H (CoreC 𝓤 H (𝓖 .A) (𝓜 .mem) (𝓡 .run)) 𝓜 𝓡 code.env #core core-def.routine code.calls-calls·read-register (core-thm.met 𝓤 H 𝓜 𝓖 𝓡)))

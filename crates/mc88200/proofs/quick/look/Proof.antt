@@ -1,7 +1,7 @@
 use borrow.Author.Needs.{needs}
 use Rattle.mc88200.proofs.quick.look.Statement.{statement}
 use Rattle.mc88200.specs.Quick.{quickOf}
-use Rattle.mc88200.specs.Layout.{ports-kept}
+use Rattle.layout.specs.Layout.{ports-kept}
 use denote.Ref.{now}
 use mathlib.Core.Path.{_≡_}
 use lib.ListN.{length}
