@@ -24,7 +24,7 @@ use Rattle.pages.specs.declared.lookup.Lookup.the-variants.{Found, Search, Viol
 use Rattle.pages.specs.declared.lookup.Walked.{Walked}
 use Rattle.pages.specs.declared.lookup.Walked.the-variants.{Update, Complete, Violation as Barred}
 use Rattle.pages.specs.Pages.{segmentAt, pageAt}
-use Rattle.flight.specs.Course.{noTransaction}
+use Rattle.course.specs.Course.{noTransaction}
 use Rattle.flight.specs.Ops.{Got, Shown, Sent, Ops}
 use Rattle.flight.specs.Steps.{Scene, faulted, noted, withLines, moves, storeOf, readOf, fillOf, copybackOf, missAt, writeOf, singleX, singleOf, inhibitedOf, cacheOf, walks, loadedOf, finishOf, pageOf, searchOf, goOf, accessOf, opening}
 use Rattle.driver.specs.Alone.{memory, alone}

@@ -12,7 +12,7 @@ use Rattle.memory.specs.declared.Moved.{Moved}
 use Rattle.state.specs.declared.Transaction.{Transaction}
 use Rattle.state.specs.declared.Outcome.{Outcome}
 use Rattle.state.specs.Outcome.{caseOf}
-use Rattle.flight.specs.Course.{noTransaction, slotOf, movedBy}
+use Rattle.course.specs.Course.{noTransaction, slotOf, movedBy}
 use Rattle.flight.specs.Ops.{Ops}
 use Rattle.flight.specs.Steps.{Scene, Ended, ended, faulted, noted}
 use Rattle.unit.specs.Answers.{wordsAt, totalOf}

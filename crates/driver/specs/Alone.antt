@@ -3,9 +3,9 @@ use Prim.Native.Nat.{ℕ}
 use mathlib.Core.List.{List}
 use Rattle.words.specs.Words.{pick}
 use Rattle.memory.specs.Memory.{Wrote, partOf, shownOf, readOf, writeWordOf, writeLineOf}
-use Rattle.flight.specs.declared.course.Course.{Course}
-use Rattle.flight.specs.declared.course.Flight.{Flight}
-use Rattle.flight.specs.Cache.{wordOf}
+use Rattle.course.specs.declared.Course.{Course}
+use Rattle.course.specs.declared.Flight.{Flight}
+use Rattle.cache.specs.Cache.{wordOf}
 use Rattle.flight.specs.Ops.{Ops, Sent}
 
 pub record Memory : Type 0 where

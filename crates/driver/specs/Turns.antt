@@ -5,9 +5,9 @@ use mathlib.Core.Bool.{Bool, true, false}
 use mathlib.Core.List.{List}
 use native.Mathlib.Omega.{arith}
 use Rattle.words.specs.Words.{pick}
-use Rattle.flight.specs.declared.course.Course.{Course}
-use Rattle.flight.specs.declared.course.Flight.{Flight}
-use Rattle.flight.specs.declared.course.Stage.the-variants.{Single}
+use Rattle.course.specs.declared.Course.{Course}
+use Rattle.course.specs.declared.Flight.{Flight}
+use Rattle.course.specs.declared.Stage.the-variants.{Single}
 use Rattle.flight.specs.Ops.{Ops, System, system, turnAt, turnOf, leftOf}
 use Rattle.driver.specs.Alone.{Memory, memory, alone, FlownTo, flownTo, singleBy}
 

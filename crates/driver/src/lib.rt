@@ -1,13 +1,13 @@
 // The driver of one unit on its memory: it moves the words of each transaction that a flight wants.
-use flight::course::Course;
-use flight::course::Flight;
-use flight::course::Stage;
+use course::Course;
+use course::Flight;
+use course::Stage;
 ghost use mathlib.Core.Path.{_≡_};
 ghost use Prim.Native.Nat.{_<_};
 ghost use lib.ListN.{length};
 ghost use Rattle.memory.specs.Memory.{readOf, partOf, shownOf, writeWordOf, writeLineOf};
 ghost use Rattle.lines.specs.Lines.{lineWords};
-ghost use Rattle.flight.specs.Cache.{lined, cached, dropOf, backOf, fillOf, storeOf};
+ghost use Rattle.cache.specs.Cache.{lined, cached, dropOf, backOf, fillOf, storeOf};
 ghost use Rattle.flight.specs.Search.{flown, segmentOf, pageOf, updateOf};
 ghost use Rattle.flight.specs.Ops.{system, turnOf, leftOf};
 ghost use Rattle.driver.specs.Alone.{memory, alone, flownTo, singleBy};
@@ -55,7 +55,7 @@ fn drop(c: Course, lines: &mut [u32; 1280], cells: &[u32], ram: &mut [u32]) -> F
 {
     let part = lines::line_words(cells, c.place);
     let moved = memory::write_line(ram, c.want.address, part);
-    flight::cache::take_drop(c, lines, moved)
+    cache::take_drop(c, lines, moved)
 }
 
 fn back(c: Course, cells: &[u32], ram: &mut [u32]) -> Flight
@@ -64,7 +64,7 @@ fn back(c: Course, cells: &[u32], ram: &mut [u32]) -> Flight
 {
     let part = lines::line_words(cells, c.place);
     let moved = memory::write_line(ram, c.want.address, part);
-    flight::cache::take_back(c, moved)
+    cache::take_back(c, moved)
 }
 
 fn fill<'a>(
@@ -79,7 +79,7 @@ fn fill<'a>(
 {
     let part = memory::line(ram, rom, c.want.address);
     let moved = memory::shown(part, c.want.address);
-    flight::cache::take_fill(c, lines, cells, part, moved)
+    cache::take_fill(c, lines, cells, part, moved)
 }
 
 fn store(c: Course, lines: &mut [u32; 1280], cells: &mut [u32], ram: &mut [u32]) -> Flight
@@ -88,7 +88,7 @@ fn store(c: Course, lines: &mut [u32; 1280], cells: &mut [u32], ram: &mut [u32])
 {
     let a = c.access;
     let moved = memory::write_word(ram, c.want.address, a.enables, a.word);
-    flight::cache::take_store(c, lines, cells, moved)
+    cache::take_store(c, lines, cells, moved)
 }
 
 fn single(c: Course, ram: &mut [u32], rom: &[u32]) -> Flight
@@ -98,11 +98,11 @@ fn single(c: Course, ram: &mut [u32], rom: &[u32]) -> Flight
     let a = c.access;
     if a.write {
         let moved = memory::write_word(ram, c.want.address, a.enables, a.word);
-        return flight::cache::take_single(c, moved, 0);
+        return cache::take_single(c, moved, 0);
     }
     let read = memory::read_word(ram, rom, c.want.address);
     let moved = read.moved;
-    flight::cache::take_single(c, moved, read.word)
+    cache::take_single(c, moved, read.word)
 }
 
 // One turn: the transaction that the flight wants.

@@ -6,9 +6,9 @@ use Rattle.state.specs.declared.Outcome.the-variants.{Failed}
 use Rattle.pages.specs.declared.lookup.Lookup.{Lookup}
 use Rattle.pages.specs.declared.lookup.Lookup.the-variants.{Found, Violation, Search}
 use Rattle.pages.specs.Lookup.{placeOf, judgeOf}
-use Rattle.flight.specs.declared.course.Course.{Course}
-use Rattle.flight.specs.Course.{freshOf, withTranslation, endedOf}
-use Rattle.flight.specs.Cache.{Cached, cached, enterOf}
+use Rattle.course.specs.declared.Course.{Course}
+use Rattle.course.specs.Course.{freshOf, withTranslation, endedOf}
+use Rattle.cache.specs.Cache.{Cached, cached, enterOf}
 use Rattle.flight.specs.Search.{startOf}
 
 -- go on with the translation, end in a fault, or search

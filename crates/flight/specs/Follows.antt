@@ -17,15 +17,15 @@ use Rattle.pages.specs.declared.lookup.Walked.the-variants.{Update, Complete, V
 use Rattle.pages.specs.Lookup.{placeOf, judgeOf, walkedOf}
 use Rattle.pages.specs.Patc.{Loaded, loadOf}
 use Rattle.pages.specs.Pages.{pageWordOf, frameWordOf}
-use Rattle.flight.specs.declared.course.Course.{Course}
-use Rattle.flight.specs.declared.course.Flight.{Flight}
-use Rattle.flight.specs.declared.course.Stage.the-variants.{Done}
-use Rattle.flight.specs.Course.{freshOf, withWant, withTranslation, withPlace, withEntry, withDescriptor, withPointer, listedOf, searchedOf, carriedOf}
-use Rattle.flight.specs.Cache
+use Rattle.course.specs.declared.Course.{Course}
+use Rattle.course.specs.declared.Flight.{Flight}
+use Rattle.course.specs.declared.Stage.the-variants.{Done}
+use Rattle.course.specs.Course.{freshOf, withWant, withTranslation, withPlace, withEntry, withDescriptor, withPointer, listedOf, searchedOf, carriedOf}
+use Rattle.cache.specs.Cache
 use Rattle.flight.specs.Search
 use Rattle.flight.specs.Begin
 use Rattle.flight.specs.Steps
-use Rattle.flight.specs.Cache.{Lined, Cached, inhibitedOf, singleOf, storingOf, fillingOf, backingOf, droppingOf, uncachedOf, readHitOf, writeLineOf, writeHitOf, missOf, enterAt, enterOf, settledOf, backOf, dropOf, fillOf, storeOf, wordOf}
+use Rattle.cache.specs.Cache.{Lined, Cached, inhibitedOf, singleOf, storingOf, fillingOf, backingOf, droppingOf, uncachedOf, readHitOf, writeLineOf, writeHitOf, missOf, enterAt, enterOf, settledOf, backOf, dropOf, fillOf, storeOf, wordOf}
 use Rattle.flight.specs.Search.{Flown, startOf, segmentOf, updatingOf, loadedOf, walkOf, pageOf, updateOf}
 use Rattle.flight.specs.Begin.{goOf, beginOf}
 use Rattle.flight.specs.Ops.{Got, Shown, Sent, Ops, System, system, onFlown, onCached, onLined, turnAt, turnOf, leftOf, segmentTurn, pageTurn, updateTurn, dropTurn, backTurn, fillTurn, storeTurn, sentTurn, gotTurn}

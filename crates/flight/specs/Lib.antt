@@ -1,5 +1,3 @@
-pub mod Course
-pub mod Cache
 pub mod Search
 pub mod Begin
 pub mod Ops

@@ -7,11 +7,11 @@ use Rattle.memory.specs.declared.Moved.{Moved}
 use Rattle.memory.specs.declared.Read.{Read}
 use Rattle.lines.specs.Lines.{lineWords}
 use Rattle.state.specs.declared.Transaction.{Transaction}
-use Rattle.flight.specs.declared.course.Course.{Course}
-use Rattle.flight.specs.declared.course.Flight.{Flight}
-use Rattle.flight.specs.declared.course.Stage.{Stage}
-use Rattle.flight.specs.declared.course.Stage.the-variants.{Done, Segment, Page, Update, Drop, Back, Fill, Store, Single}
-use Rattle.flight.specs.Cache.{Lined, Cached, backOf, dropOf, fillOf, storeOf, wordOf}
+use Rattle.course.specs.declared.Course.{Course}
+use Rattle.course.specs.declared.Flight.{Flight}
+use Rattle.course.specs.declared.Stage.{Stage}
+use Rattle.course.specs.declared.Stage.the-variants.{Done, Segment, Page, Update, Drop, Back, Fill, Store, Single}
+use Rattle.cache.specs.Cache.{Lined, Cached, backOf, dropOf, fillOf, storeOf, wordOf}
 use Rattle.flight.specs.Search.{Flown, segmentOf, pageOf, updateOf}
 
 -- what a transaction gives, and the world after it

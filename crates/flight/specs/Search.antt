@@ -13,11 +13,11 @@ use Rattle.pages.specs.declared.lookup.Walked.the-variants.{Violation, Update a
 use Rattle.pages.specs.Pages.{segmentAt, pageAt, pageWordOf, frameWordOf}
 use Rattle.pages.specs.Patc.{putOf, Loaded, loadOf}
 use Rattle.pages.specs.Lookup.{walkedOf}
-use Rattle.flight.specs.declared.course.Course.{Course}
-use Rattle.flight.specs.declared.course.Flight.{Flight}
-use Rattle.flight.specs.declared.course.Stage.the-variants.{Segment, Page, Update}
-use Rattle.flight.specs.Course.{withWant, withEntry, withDescriptor, withTranslation, withPointer, listedOf, wantingOf, endedOf, failedOf, searchedOf}
-use Rattle.flight.specs.Cache.{Cached, enterOf}
+use Rattle.course.specs.declared.Course.{Course}
+use Rattle.course.specs.declared.Flight.{Flight}
+use Rattle.course.specs.declared.Stage.the-variants.{Segment, Page, Update}
+use Rattle.course.specs.Course.{withWant, withEntry, withDescriptor, withTranslation, withPointer, listedOf, wantingOf, endedOf, failedOf, searchedOf}
+use Rattle.cache.specs.Cache.{Cached, enterOf}
 
 -- a flight with all that it may change of its unit
 pub record Flown : Type 0 where

@@ -21,7 +21,7 @@ use Rattle.pages.specs.declared.lookup.Walked.the-variants.{Update, Complete, V
 use Rattle.pages.specs.Pages.{segmentAt, pageAt, pageWordOf, frameWordOf}
 use Rattle.pages.specs.Patc.{putOf as putEntry, Loaded, loadOf}
 use Rattle.pages.specs.Lookup.{placeOf, judgeOf, walkedOf}
-use Rattle.flight.specs.Course.{noTransaction, slotOf, movedBy}
+use Rattle.course.specs.Course.{noTransaction, slotOf, movedBy}
 use Rattle.flight.specs.Ops.{Got, Shown, Sent, Ops}
 
 -- an access on its way: the transactions listed so far, and all that it may change

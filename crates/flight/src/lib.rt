@@ -1,6 +1,4 @@
 // One access as a flight of M bus transactions. It never sees memory: it has its answer, or it wants one transaction next.
-pub mod cache;
-pub mod course;
 pub mod search;
 
 use course::Course;
@@ -11,7 +9,7 @@ use state::Outcome;
 ghost use mathlib.Core.Path.{_≡_};
 ghost use Prim.Native.Nat.{_<_};
 ghost use lib.ListN.{length};
-ghost use Rattle.flight.specs.Cache.{cached};
+ghost use Rattle.cache.specs.Cache.{cached};
 ghost use Rattle.flight.specs.Begin.{goOf, beginOf};
 
 // Goes on with the translation, ends in a fault, or searches the tables.

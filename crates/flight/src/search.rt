@@ -1,7 +1,7 @@
 // A table search, one descriptor at a time; and the entry that it loads or renews.
-use crate::course::Course;
-use crate::course::Flight;
-use crate::course::Stage;
+use course::Course;
+use course::Flight;
+use course::Stage;
 use memory::Moved;
 use memory::Read;
 use pages::Translation;
@@ -18,9 +18,9 @@ pub fn start(c: Course, entry: usize) -> Flight
     ensures { λ r. ⌜ (r ≡ startOf c entry) × (r .course .place < 1024) ⌝ }
 {
     let at = pages::tables::segment_at(c.area, c.access.address);
-    let d = crate::course::with_entry(c, entry);
-    let t = crate::course::searched(c, false, at);
-    crate::course::wanting(crate::course::with_want(d, t), Stage::Segment)
+    let d = course::with_entry(c, entry);
+    let t = course::searched(c, false, at);
+    course::wanting(course::with_want(d, t), Stage::Segment)
 }
 
 // After the segment descriptor: the page descriptor. V clear is fault 4.
@@ -29,17 +29,17 @@ pub fn take_segment(c: Course, read: Read) -> Flight
     ensures { λ r. ⌜ (r ≡ segmentOf c read) × (r .course .place < 1024) ⌝ }
 {
     let moved = read.moved;
-    let d = crate::course::listed(c, moved);
+    let d = course::listed(c, moved);
     if moved.ok {
         if words::bit(read.word, 0) {
             let at = pages::tables::page_at(read.word, c.access.address);
-            let e = crate::course::with_descriptor(d, read.word);
-            let t = crate::course::searched(c, false, at);
-            return crate::course::wanting(crate::course::with_want(e, t), Stage::Page);
+            let e = course::with_descriptor(d, read.word);
+            let t = course::searched(c, false, at);
+            return course::wanting(course::with_want(e, t), Stage::Page);
         }
-        return crate::course::failed(d, 4, c.want.address);
+        return course::failed(d, 4, c.want.address);
     }
-    crate::course::failed(d, 3, moved.failing)
+    course::failed(d, 3, moved.failing)
 }
 
 // Wants the page descriptor written back where it was read.
@@ -47,10 +47,10 @@ fn updating(c: Course, t: Translation, descriptor: u32) -> Flight
     requires { ⌜ c .place < 1024 ⌝ }
     ensures { λ r. ⌜ (r ≡ updatingOf c t descriptor) × (r .course .place < 1024) ⌝ }
 {
-    let d = crate::course::with_translation(c, t);
-    let e = crate::course::with_descriptor(d, descriptor);
-    let w = crate::course::searched(c, true, c.want.address);
-    crate::course::wanting(crate::course::with_want(e, w), Stage::Update)
+    let d = course::with_translation(c, t);
+    let e = course::with_descriptor(d, descriptor);
+    let w = course::searched(c, true, c.want.address);
+    course::wanting(course::with_want(e, w), Stage::Update)
 }
 
 // Loads an entry for the translation that stands, or renews the one that was hit, and goes to the cache.
@@ -63,10 +63,10 @@ fn loaded(c: Course, patc: &mut [u32; 112], lines: &mut [u32; 1280], cells: &mut
     let n = c.entry;
     if n < 56 {
         pages::patc::put(patc, n, page, frame);
-        return crate::cache::enter(c, lines, cells);
+        return cache::enter(c, lines, cells);
     }
     let pointer = pages::patc::load(patc, c.pointer, page, frame);
-    crate::cache::enter(crate::course::with_pointer(c, pointer), lines, cells)
+    cache::enter(course::with_pointer(c, pointer), lines, cells)
 }
 
 // What a search does with both descriptors.
@@ -81,10 +81,10 @@ fn walk(
     ensures { λ r. ⌜ (flown r (now (patc .exit)) (now (lines .exit)) (now (cells .exit)) ≡ walkOf c walked (now (patc .entry)) (now (lines .entry)) (now (cells .entry))) × (r .course .place < 1024) ⌝ }
 {
     match walked {
-        Walked::Violation(fault) => crate::course::ended(c, Outcome::Failed(fault)),
+        Walked::Violation(fault) => course::ended(c, Outcome::Failed(fault)),
         Walked::Update(t, descriptor) => updating(c, t, descriptor),
         Walked::Complete(t) => {
-            let d = crate::course::with_translation(c, t);
+            let d = course::with_translation(c, t);
             loaded(d, patc, lines, cells)
         }
     }
@@ -102,7 +102,7 @@ pub fn take_page(
     ensures { λ r. ⌜ (flown r (now (patc .exit)) (now (lines .exit)) (now (cells .exit)) ≡ pageOf c (now (patc .entry)) (now (lines .entry)) (now (cells .entry)) read) × (r .course .place < 1024) ⌝ }
 {
     let moved = read.moved;
-    let d = crate::course::listed(c, moved);
+    let d = course::listed(c, moved);
     if moved.ok {
         if words::bit(read.word, 0) {
             let a = c.access;
@@ -116,9 +116,9 @@ pub fn take_page(
             );
             return walk(d, walked, patc, lines, cells);
         }
-        return crate::course::failed(d, 5, c.want.address);
+        return course::failed(d, 5, c.want.address);
     }
-    crate::course::failed(d, 3, moved.failing)
+    course::failed(d, 3, moved.failing)
 }
 
 // After the page descriptor's update: only then is an entry loaded.
@@ -132,9 +132,9 @@ pub fn take_update(
     requires { ⌜ (c .place < 1024) × (length (now cells) ≡ 4096) ⌝ }
     ensures { λ r. ⌜ (flown r (now (patc .exit)) (now (lines .exit)) (now (cells .exit)) ≡ updateOf c (now (patc .entry)) (now (lines .entry)) (now (cells .entry)) moved) × (r .course .place < 1024) ⌝ }
 {
-    let d = crate::course::listed(c, moved);
+    let d = course::listed(c, moved);
     if moved.ok {
         return loaded(d, patc, lines, cells);
     }
-    crate::course::failed(d, 3, moved.failing)
+    course::failed(d, 3, moved.failing)
 }

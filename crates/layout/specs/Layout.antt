@@ -14,7 +14,7 @@ use Rattle.state.specs.Outcome.{caseOf, valueOf, placeOf}
 use Rattle.flush.specs.declared.snoop.Snooped.{Snooped}
 use Rattle.flush.specs.declared.snoop.Snooped.the-variants.{Clear, Retry, Failed}
 use Rattle.layout.specs.declared.Row.{Row}
-use Rattle.flight.specs.Course.{noTransaction}
+use Rattle.course.specs.Course.{noTransaction}
 
 -- word n of an array
 abbrev pub at : List ℕ → ℕ → ℕ

@@ -9,8 +9,8 @@ use Rattle.state.specs.declared.Answer.{Answer}
 use Rattle.state.specs.declared.Outcome.{Outcome}
 use Rattle.state.specs.declared.Outcome.the-variants.{Idle, Word, Written, Failed}
 use Rattle.state.specs.Outcome.{pairOf}
-use Rattle.flight.specs.declared.course.Flight.{Flight}
-use Rattle.flight.specs.Course.{noTransaction}
+use Rattle.course.specs.declared.Flight.{Flight}
+use Rattle.course.specs.Course.{noTransaction}
 use Rattle.unit.specs.declared.answers.Accessed.{Accessed}
 use Rattle.commands.specs.declared.registers.Stored.{Stored}
 use Rattle.commands.specs.Registers.{withPointer}

@@ -5,8 +5,8 @@ use mathlib.Core.List.{List}
 use Rattle.state.specs.declared.Access.{Access}
 use Rattle.state.specs.declared.Registers.{Registers}
 use Rattle.state.specs.declared.FaultPair.{FaultPair}
-use Rattle.flight.specs.declared.course.Flight.{Flight}
-use Rattle.flight.specs.Cache.{Cached, cached}
+use Rattle.course.specs.declared.Flight.{Flight}
+use Rattle.cache.specs.Cache.{Cached, cached}
 use Rattle.flight.specs.Begin.{beginOf}
 use Rattle.flight.specs.Ops.{System, system, onCached, leftOf}
 use Rattle.flight.specs.Follows.{endOf, follows}

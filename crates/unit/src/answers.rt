@@ -1,6 +1,6 @@
 // The answer to an access, with the registers and the fault pair that it leaves.
 use commands::registers::Stored;
-use flight::course::Flight;
+use course::Flight;
 use state::Answer;
 use state::Fault;
 use state::FaultPair;
@@ -51,7 +51,7 @@ fn fault(pair: FaultPair, outcome: Outcome) -> FaultPair
 pub fn plain(registers: Registers, pair: FaultPair, outcome: Outcome, words: u32) -> Accessed
     ensures { λ r. ⌜ r ≡ plainOf registers pair outcome words ⌝ }
 {
-    let none = flight::course::no_transaction();
+    let none = course::no_transaction();
     let list = [none; 6];
     let answer = Answer {
         outcome,

@@ -1,0 +1,12 @@
+use borrow.Author.Needs.{needs}
+use Rattle.cache.proofs.filling.Statement.{statement}
+use Rattle.cache.specs.Cache.{fillingOf}
+use Rattle.cache.proofs.filling.Tie as tie
+
+returns : tie.Need-returns
+unfolding fillingOf
+returns c = (rw (c .wanting .ensures .0, c .before .with-want .ensures .0, c .before .before .carried .ensures), search needs)
+
+pub filling-spec : {M : Type 1} → statement M
+filling-spec =
+    tie.close (tie.spec (λ c. search needs) (λ c κs. search needs) (λ c κs. search needs) (λ c κs. search needs) returns)
