@@ -1,0 +1,1 @@
+// What a host may rely on at the doors: theorems alone, see specs/.
