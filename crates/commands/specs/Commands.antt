@@ -10,8 +10,8 @@ use Rattle.flush.specs.declared.Kind.the-variants.{Invalidate, CopyBack, Both}
 use Rattle.flush.specs.declared.Range.{Range}
 use Rattle.flush.specs.declared.Range.the-variants.{Line, Page, Segment, All}
 use Rattle.flush.specs.Flush.{Sweep, sweepOf}
-use Rattle.pages.specs.declared.patc.Range.the-variants.{Page as EntriesOfPage, Segment as EntriesOfSegment, All as AllEntries}
-use Rattle.pages.specs.Patc.{clearedOf}
+use Rattle.patc.specs.declared.Range.the-variants.{Page as EntriesOfPage, Segment as EntriesOfSegment, All as AllEntries}
+use Rattle.patc.specs.Patc.{clearedOf}
 use Rattle.commands.specs.declared.registers.Ran.{Ran}
 use Rattle.commands.specs.declared.Command.{Command}
 use Rattle.commands.specs.declared.Command.the-variants.{Nothing, Flush, Probe, Clear}

@@ -2,15 +2,15 @@
 use Prim.Native.Nat.{ℕ, _+_, _*_}
 use mathlib.Core.Bool.{Bool, true, false}
 use mathlib.Core.List.{List}
-use Rattle.words.specs.Words.{pick, bitsOf, bitOf}
+use Rattle.words.specs.Words.{pick, bitsOf, bitOf, flagOf}
 use Rattle.memory.specs.declared.Read.{Read}
 use Rattle.memory.specs.Memory.{readOf}
 use Rattle.state.specs.declared.Registers.{Registers}
 use Rattle.pages.specs.declared.Translation.{Translation}
-use Rattle.pages.specs.declared.lookup.Place.{Place}
-use Rattle.pages.specs.declared.lookup.Place.the-variants.{Unmapped, Block, Page, Nowhere}
-use Rattle.pages.specs.Pages.{flagOf, segmentAt, pageAt, combinedOf}
-use Rattle.pages.specs.Lookup.{placeOf}
+use Rattle.lookup.specs.declared.Place.{Place}
+use Rattle.lookup.specs.declared.Place.the-variants.{Unmapped, Block, Page, Nowhere}
+use Rattle.pages.specs.Pages.{segmentAt, pageAt, combinedOf}
+use Rattle.lookup.specs.Lookup.{placeOf}
 use Rattle.commands.specs.declared.registers.Ran.{Ran}
 use Rattle.commands.specs.Registers.{areaOf, withStatus}
 

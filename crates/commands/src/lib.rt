@@ -14,7 +14,7 @@ pub enum Command {
     Nothing,
     Flush(Kind, flush::Range),
     Probe(bool),
-    Clear(bool, pages::patc::Range),
+    Clear(bool, patc::Range),
 }
 
 // The low two bits of a flush say line, page, segment, all.
@@ -44,9 +44,9 @@ fn clearing(low: u32, supervisor: bool) -> Command
     ensures { λ r. ⌜ r ≡ clearingOf low supervisor ⌝ }
 {
     match low {
-        1 => Command::Clear(supervisor, pages::patc::Range::Page),
-        2 => Command::Clear(supervisor, pages::patc::Range::Segment),
-        3 => Command::Clear(supervisor, pages::patc::Range::All),
+        1 => Command::Clear(supervisor, patc::Range::Page),
+        2 => Command::Clear(supervisor, patc::Range::Segment),
+        3 => Command::Clear(supervisor, patc::Range::All),
         _ => Command::Nothing,
     }
 }
@@ -126,7 +126,7 @@ pub fn run(
         Command::Flush(kind, range) => flush(u, kind, range, lines, cells, ram),
         Command::Probe(supervisor) => crate::probe::probe(u, supervisor, patc, ram, rom),
         Command::Clear(supervisor, range) => {
-            pages::patc::clear(patc, range, supervisor, u.sar);
+            patc::clear(patc, range, supervisor, u.sar);
             same(u)
         }
     }

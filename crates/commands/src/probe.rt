@@ -1,7 +1,7 @@
 // The probe: translation without the control and protection tests, writing no descriptor and loading no entry.
 use crate::registers::Ran;
+use lookup::Place;
 use pages::Translation;
-use pages::lookup::Place;
 use state::Registers;
 ghost use mathlib.Core.Path.{_≡_};
 ghost use Prim.Native.Nat.{_≤_};
@@ -19,14 +19,14 @@ fn status(ssr: u32, t: Translation, bh: bool) -> u32
     ensures { λ r. ⌜ r ≡ statusOf ssr t bh ⌝ }
 {
     kept(ssr)
-        + pages::tables::flag(t.wt, 512)
-        + pages::tables::flag(t.sp, 256)
-        + pages::tables::flag(t.g, 128)
-        + pages::tables::flag(t.ci, 64)
-        + pages::tables::flag(t.m, 16)
-        + pages::tables::flag(t.u, 8)
-        + pages::tables::flag(t.wp, 4)
-        + pages::tables::flag(bh, 2)
+        + words::flag(t.wt, 512)
+        + words::flag(t.sp, 256)
+        + words::flag(t.g, 128)
+        + words::flag(t.ci, 64)
+        + words::flag(t.m, 16)
+        + words::flag(t.u, 8)
+        + words::flag(t.wp, 4)
+        + words::flag(bh, 2)
         + 1
 }
 
@@ -100,6 +100,6 @@ pub fn probe(u: Registers, supervisor: bool, patc: &[u32; 112], ram: &[u32], rom
 {
     let area = crate::registers::area(u, supervisor);
     let ports = u.ports;
-    let place = pages::lookup::find(area, &ports, patc, u.sar, supervisor);
+    let place = lookup::find(area, &ports, patc, u.sar, supervisor);
     placed(u, area, place, ram, rom)
 }

@@ -19,10 +19,10 @@ use Rattle.state.specs.declared.Transaction.{Transaction}
 use Rattle.state.specs.declared.Outcome.the-variants.{Written}
 use Rattle.state.specs.Outcome.{caseOf}
 use Rattle.pages.specs.declared.Translation.{Translation}
-use Rattle.pages.specs.declared.lookup.Lookup.{Lookup}
-use Rattle.pages.specs.declared.lookup.Lookup.the-variants.{Found, Search, Violation}
-use Rattle.pages.specs.declared.lookup.Walked.{Walked}
-use Rattle.pages.specs.declared.lookup.Walked.the-variants.{Update, Complete, Violation as Barred}
+use Rattle.lookup.specs.declared.Lookup.{Lookup}
+use Rattle.lookup.specs.declared.Lookup.the-variants.{Found, Search, Violation}
+use Rattle.lookup.specs.declared.Walked.{Walked}
+use Rattle.lookup.specs.declared.Walked.the-variants.{Update, Complete, Violation as Barred}
 use Rattle.pages.specs.Pages.{segmentAt, pageAt}
 use Rattle.course.specs.Course.{noTransaction}
 use Rattle.flight.specs.Ops.{Got, Shown, Sent, Ops}

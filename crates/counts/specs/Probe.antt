@@ -14,9 +14,9 @@ use Rattle.memory.specs.Memory.{readOf, inRom, ramPlace}
 use Rattle.state.specs.declared.Registers.{Registers}
 use Rattle.state.specs.declared.FaultPair.{FaultPair}
 use Rattle.state.specs.Own.{ownScr}
-use Rattle.pages.specs.declared.lookup.Place.the-variants.{Nowhere}
+use Rattle.lookup.specs.declared.Place.the-variants.{Nowhere}
 use Rattle.pages.specs.Pages.{segmentAt, pageAt}
-use Rattle.pages.specs.Lookup.{placeOf}
+use Rattle.lookup.specs.Lookup.{placeOf}
 use Rattle.commands.specs.Registers.{areaOf, withScr, withSsr, withSar}
 use Rattle.commands.specs.Commands.{probingOf, commandOf, runOf}
 use Rattle.unit.specs.Unit.{writeOf}

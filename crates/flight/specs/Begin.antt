@@ -3,9 +3,9 @@ use Prim.Native.Nat.{ℕ}
 use mathlib.Core.List.{List}
 use Rattle.state.specs.declared.Access.{Access}
 use Rattle.state.specs.declared.Outcome.the-variants.{Failed}
-use Rattle.pages.specs.declared.lookup.Lookup.{Lookup}
-use Rattle.pages.specs.declared.lookup.Lookup.the-variants.{Found, Violation, Search}
-use Rattle.pages.specs.Lookup.{placeOf, judgeOf}
+use Rattle.lookup.specs.declared.Lookup.{Lookup}
+use Rattle.lookup.specs.declared.Lookup.the-variants.{Found, Violation, Search}
+use Rattle.lookup.specs.Lookup.{placeOf, judgeOf}
 use Rattle.course.specs.declared.Course.{Course}
 use Rattle.course.specs.Course.{freshOf, withTranslation, endedOf}
 use Rattle.cache.specs.Cache.{Cached, cached, enterOf}

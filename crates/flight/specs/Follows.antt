@@ -10,12 +10,12 @@ use Rattle.words.specs.Words.{pick, bitOf}
 use Rattle.lines.specs.Lines.{modified, stateOf, tagWord, hitOf, victimOf}
 use Rattle.state.specs.declared.Access.{Access}
 use Rattle.pages.specs.declared.Translation.{Translation}
-use Rattle.pages.specs.declared.lookup.Lookup.{Lookup}
-use Rattle.pages.specs.declared.lookup.Lookup.the-variants.{Found, Search, Violation}
-use Rattle.pages.specs.declared.lookup.Walked.{Walked}
-use Rattle.pages.specs.declared.lookup.Walked.the-variants.{Update, Complete, Violation as Barred}
-use Rattle.pages.specs.Lookup.{placeOf, judgeOf, walkedOf}
-use Rattle.pages.specs.Patc.{Loaded, loadOf}
+use Rattle.lookup.specs.declared.Lookup.{Lookup}
+use Rattle.lookup.specs.declared.Lookup.the-variants.{Found, Search, Violation}
+use Rattle.lookup.specs.declared.Walked.{Walked}
+use Rattle.lookup.specs.declared.Walked.the-variants.{Update, Complete, Violation as Barred}
+use Rattle.lookup.specs.Lookup.{placeOf, judgeOf, walkedOf}
+use Rattle.patc.specs.Patc.{Loaded, loadOf}
 use Rattle.pages.specs.Pages.{pageWordOf, frameWordOf}
 use Rattle.course.specs.declared.Course.{Course}
 use Rattle.course.specs.declared.Flight.{Flight}

@@ -8,11 +8,11 @@ use Rattle.memory.specs.declared.Moved.{Moved}
 use Rattle.memory.specs.declared.Read.{Read}
 use Rattle.state.specs.declared.Outcome.the-variants.{Failed}
 use Rattle.pages.specs.declared.Translation.{Translation}
-use Rattle.pages.specs.declared.lookup.Walked.{Walked}
-use Rattle.pages.specs.declared.lookup.Walked.the-variants.{Violation, Update as Renew, Complete}
+use Rattle.lookup.specs.declared.Walked.{Walked}
+use Rattle.lookup.specs.declared.Walked.the-variants.{Violation, Update as Renew, Complete}
 use Rattle.pages.specs.Pages.{segmentAt, pageAt, pageWordOf, frameWordOf}
-use Rattle.pages.specs.Patc.{putOf, Loaded, loadOf}
-use Rattle.pages.specs.Lookup.{walkedOf}
+use Rattle.patc.specs.Patc.{putOf, Loaded, loadOf}
+use Rattle.lookup.specs.Lookup.{walkedOf}
 use Rattle.course.specs.declared.Course.{Course}
 use Rattle.course.specs.declared.Flight.{Flight}
 use Rattle.course.specs.declared.Stage.the-variants.{Segment, Page, Update}

@@ -14,13 +14,13 @@ use Rattle.state.specs.declared.Transaction.{Transaction}
 use Rattle.state.specs.declared.Outcome.{Outcome}
 use Rattle.state.specs.declared.Outcome.the-variants.{Idle, Word, Written, Failed}
 use Rattle.pages.specs.declared.Translation.{Translation}
-use Rattle.pages.specs.declared.lookup.Lookup.{Lookup}
-use Rattle.pages.specs.declared.lookup.Lookup.the-variants.{Found, Search, Violation}
-use Rattle.pages.specs.declared.lookup.Walked.{Walked}
-use Rattle.pages.specs.declared.lookup.Walked.the-variants.{Update, Complete, Violation as Barred}
+use Rattle.lookup.specs.declared.Lookup.{Lookup}
+use Rattle.lookup.specs.declared.Lookup.the-variants.{Found, Search, Violation}
+use Rattle.lookup.specs.declared.Walked.{Walked}
+use Rattle.lookup.specs.declared.Walked.the-variants.{Update, Complete, Violation as Barred}
 use Rattle.pages.specs.Pages.{segmentAt, pageAt, pageWordOf, frameWordOf}
-use Rattle.pages.specs.Patc.{putOf as putEntry, Loaded, loadOf}
-use Rattle.pages.specs.Lookup.{placeOf, judgeOf, walkedOf}
+use Rattle.patc.specs.Patc.{putOf as putEntry, Loaded, loadOf}
+use Rattle.lookup.specs.Lookup.{placeOf, judgeOf, walkedOf}
 use Rattle.course.specs.Course.{noTransaction, slotOf, movedBy}
 use Rattle.flight.specs.Ops.{Got, Shown, Sent, Ops}
 

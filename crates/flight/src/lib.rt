@@ -3,7 +3,7 @@ pub mod search;
 
 use course::Course;
 use course::Flight;
-use pages::lookup::Lookup;
+use lookup::Lookup;
 use state::Access;
 use state::Outcome;
 ghost use mathlib.Core.Path.{_≡_};
@@ -41,7 +41,7 @@ pub fn begin(
     ensures { λ r. ⌜ (cached r (now (lines .exit)) (now (cells .exit)) ≡ beginOf access area (now (ports .entry)) pointer (now (patc .entry)) (now (lines .entry)) (now (cells .entry))) × (r .course .place < 1024) ⌝ }
 {
     let c = course::fresh(access, area, pointer);
-    let found = pages::lookup::find(area, ports, patc, access.address, access.supervisor);
-    let next = pages::lookup::judge(found, access.supervisor, access.write);
+    let found = lookup::find(area, ports, patc, access.address, access.supervisor);
+    let next = lookup::judge(found, access.supervisor, access.write);
     go(c, next, lines, cells)
 }

@@ -2,10 +2,10 @@
 use course::Course;
 use course::Flight;
 use course::Stage;
+use lookup::Walked;
 use memory::Moved;
 use memory::Read;
 use pages::Translation;
-use pages::lookup::Walked;
 use state::Outcome;
 ghost use mathlib.Core.Path.{_≡_};
 ghost use Prim.Native.Nat.{_<_};
@@ -62,10 +62,10 @@ fn loaded(c: Course, patc: &mut [u32; 112], lines: &mut [u32; 1280], cells: &mut
     let frame = pages::tables::frame_word(c.t);
     let n = c.entry;
     if n < 56 {
-        pages::patc::put(patc, n, page, frame);
+        patc::put(patc, n, page, frame);
         return cache::enter(c, lines, cells);
     }
-    let pointer = pages::patc::load(patc, c.pointer, page, frame);
+    let pointer = patc::load(patc, c.pointer, page, frame);
     cache::enter(course::with_pointer(c, pointer), lines, cells)
 }
 
@@ -106,7 +106,7 @@ pub fn take_page(
     if moved.ok {
         if words::bit(read.word, 0) {
             let a = c.access;
-            let walked = pages::lookup::finish(
+            let walked = lookup::finish(
                 c.area,
                 c.descriptor,
                 read.word,

@@ -9,7 +9,14 @@ use Rattle.words.specs.Words.{pick}
 use Rattle.flush.specs.declared.Kind.{Kind}
 use Rattle.flush.specs.declared.Range.{Range}
 use Rattle.flush.specs.declared.Flushed.{Flushed}
-use Rattle.flush.specs.Flush.{Sweep, swept, wellOf, stoppedOf, lineOf, sweepOf}
+use Rattle.flush.specs.declared.Kind.the-variants.{Invalidate, CopyBack, Both}
+use Rattle.flush.specs.Flush.{afterOf, Sweep, swept, wellOf, stoppedOf, lineOf, sweepOf}
+
+-- the state that a copied line takes is one of the four
+pub after-small : (k : Kind) → afterOf k < 4
+after-small Invalidate = omega arith
+after-small CopyBack = omega arith
+after-small Both = omega arith
 
 module _ (k : Kind) (r : Range) (sar : ℕ) (cs ls ram : List ℕ) where
   pub stopped-stays : (n m : ℕ) → sweepOf k r sar cs ls ram n .flushed .ok ≡ false → sweepOf k r sar cs ls ram (n + m) ≡ sweepOf k r sar cs ls ram n

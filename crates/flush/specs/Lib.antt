@@ -1,3 +1,4 @@
 pub mod Flush
 pub mod Snoop
 pub mod Laws
+pub mod Step

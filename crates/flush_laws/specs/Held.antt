@@ -10,7 +10,7 @@ use lib.ListN.{length, getD}
 use lib.Dec.{ltb}
 use borrow.Author.Tests.{eqb-true, eq-eqb, ne-eqb, lt-ltb, le-ltb, leb-true}
 use Rattle.words.specs.Words.{pick}
-use Rattle.words.specs.Laws.{and-left, and-right}
+use Rattle.words.specs.Laws.{and-left, and-right, ruled-out}
 use Rattle.memory.specs.Memory.{ramPlace, ramLine, readOf}
 use Rattle.lines.specs.Lines.{setOf, tagOf, stateOf, valid, modified, matches, tagWord, lineAddress, hitOf, wordAt}
 use Rattle.lines.specs.Laws.{Hit, Miss, Looked, found, missing, hit-is}
@@ -19,7 +19,7 @@ use Rattle.flush.specs.declared.Kind.the-variants.{CopyBack, Both}
 use Rattle.flush.specs.Flush.{copiesOf}
 use Rattle.flush_laws.specs.Sweep.{isCopied, linesTo, ramTo, FitsTo}
 use Rattle.flush_laws.specs.Point.{dropped-invalid, after-tag, after-valid, after-uncovered, after-covered, pick-same, linesTo-later, linesTo-done, hits, length-ramTo, ramTo-at}
-use Rattle.flush_laws.specs.Union.{fails, newest-none, copied-word}
+use Rattle.flush_laws.specs.Union.{newest-none, copied-word}
 
 -- memory's word: RAM's or ROM's, or else none
 abbrev pub memoryOf : List ℕ → List ℕ → ℕ → Option ℕ
@@ -92,7 +92,7 @@ module _ (k : Kind) (c : ℕ → Bool) (cs ls ram rom : List ℕ) {n : ℕ} (sma
       ∙ rw (newest-none ls cs (ramPlace address) (getD ram (ramPlace address) 0) n other) (pick-same (copiesOf k && c (ramPlace address / 4 * 16)) _))
 
   missed-memory : Miss ls address → memoryOf (ramTo k c cs ls ram n) rom address ≡ memoryOf ram rom address
-  missed-memory miss = kept-memory (λ p h. fails _ (λ e. missed ls address miss p (hits-hit ls address p (omega arith) e)))
+  missed-memory miss = kept-memory (λ p h. ruled-out _ (λ e. missed ls address miss p (hits-hit ls address p (omega arith) e)))
 
 -- ---- copying back
 
@@ -182,7 +182,7 @@ module _ (c : ℕ → Bool) (cs ls ram rom : List ℕ) (size : length ls ≡ 128
           go (asBefore w) = rw w
           go (dropped l d v) =
               matches-invalid _ _ v
-              ∙ sym (fails _ (λ m. true≢false (sym d ∙ ap c (sym (hit-address ls address q physical (matches-hit ls address q h s m))) ∙ e)))
+              ∙ sym (ruled-out _ (λ m. true≢false (sym d ∙ ap c (sym (hit-address ls address q physical (matches-hit ls address q h s m))) ∙ e)))
 
   -- covered: the line that hits, if there is one, is the only one; unmodified it agrees with memory
   module _ (alone : (p q : ℕ) → Hit ls address p → Hit ls address q → p ≡ q) (agrees : (p : ℕ) → Hit ls address p → modified (tagWord ls p) ≡ false → memoryOf ram rom address ≡ some (wordAt cs p address)) where
@@ -193,7 +193,7 @@ module _ (c : ℕ → Bool) (cs ls ram rom : List ℕ) (size : length ls ≡ 128
         let copied : isCopied Both c p (tagWord ls p) ≡ true = rw (d, m) in
         let fits : ramPlace address < length ram₂ = rw length-ramTo (omega (arith, leb-true (ramLine (lineAddress p (tagWord ls p)) + 4) (length ram) (f p l copied))) in
         ram-memory ram₂ rom address fits ∙ ap some (copied-word Both c cs ls ram f p (ramPlace address) l place copied (λ q b e. alone q p (hits-hit ls address q (omega arith) e) h))
-    dropped-hit p h l d false m = kept-memory Both c cs ls ram rom small f address (λ q b. fails _ (λ e. clean q e (alone q p (hits-hit ls address q (omega arith) e) h))) ∙ agrees p h m
+    dropped-hit p h l d false m = kept-memory Both c cs ls ram rom small f address (λ q b. ruled-out _ (λ e. clean q e (alone q p (hits-hit ls address q (omega arith) e) h))) ∙ agrees p h m
       where
         clean : (q : ℕ) → hits ls (ramPlace address) q ≡ true → q ≡ p → ⊥
         clean q e same = true≢false (sym (and-left (modified (tagWord ls q)) _ e) ∙ rw same m)

@@ -11,6 +11,8 @@ use lib.ListN.{length, getD, set, drop, length-set}
 use lib.Seq.{getD-set-same, getD-set-other, ext-getD, set-getD, getD-take, getD-drop}
 use lib.Dec.{eqb}
 use borrow.Author.Tests.{eqb-true, eqb-false, leb-true, ne-eqb, not-false}
+use Rattle.memory.specs.Laws.{length-put}
+use Rattle.flush.specs.Laws.{after-small}
 use Rattle.words.specs.Words.{pick}
 use Rattle.words.specs.Laws.{either, and-left, and-right}
 use Rattle.memory.specs.Memory.{ramLine, putOf, lineFits, writeLineOf}
@@ -22,10 +24,6 @@ use Rattle.flush.specs.Flush.{copiesOf, dropsOf, afterOf, wellOf, stoppedOf, Sw
 use Rattle.flush_laws.specs.Sweep.{_∪_, lineBy, sweepBy, treated, after, isCopied, linesTo, ramTo, countTo, FitsTo}
 
 -- ---- four words put into RAM
-
-length-put : (ram : List ℕ) (at : ℕ) (part : List ℕ) → length (putOf ram at part) ≡ length ram
-unfolding putOf
-length-put ram at part = simp length-set
 
 module _ (ram : List ℕ) (at : ℕ) (part : List ℕ) where
   abbrev one : List ℕ
@@ -120,11 +118,6 @@ module _ (k : Kind) (c : ℕ → Bool) (cs : List ℕ) (p : ℕ) (ls ram : List 
   line-stops e f = stop-cases (c (lineAddress p (tagWord ls p))) (valid (tagWord ls p)) (copiesOf k) (modified (tagWord ls p)) _ _ _ (unmodified (tagWord ls p)) e ∙ rw f (ap (λ (a : ℕ). swept (stoppedOf 0 a) ls ram) (omega arith))
 
 -- ---- a tag word afterwards
-
-after-small : (k : Kind) → afterOf k < 4
-after-small Invalidate = omega arith
-after-small CopyBack = omega arith
-after-small Both = omega arith
 
 -- what holds of a covered word as it was and in any state holds of the word afterwards
 treated-either : (P : ℕ → Type 0) (k : Kind) (w : ℕ) → P w → ((s : ℕ) → s < 4 → P (withState w s)) → P (treated k w)

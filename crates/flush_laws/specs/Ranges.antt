@@ -10,7 +10,7 @@ use native.Mathlib.Decide.{ℕ-discrete}
 use lib.Dec.{eqb, leb, ltb}
 use borrow.Author.Tests.{eqb-true, eq-eqb, ne-eqb, leb-true, ltb-true, le-leb, lt-ltb}
 use Rattle.words.specs.Words.{bitsOf}
-use Rattle.words.specs.Laws.{and-left, and-right}
+use Rattle.words.specs.Laws.{and-left, and-right, both-ways}
 use Rattle.flush.specs.declared.Range.{Range}
 use Rattle.flush.specs.declared.Range.the-variants.{Line, Page, Segment, All}
 use Rattle.flush.specs.Flush.{coversOf}
@@ -63,11 +63,6 @@ any-order part whole sar ss ts names perm address = ∥∥₁-elim perm (Bool-se
 -- ---- a run of parts
 
 -- two tests that pass together are one
-same-test : (a b : Bool) → (a ≡ true → b ≡ true) → (b ≡ true → a ≡ true) → a ≡ b
-same-test true b f g = sym (f refl)
-same-test false true f g = g refl
-same-test false false f g = refl
-
 -- is x one of the n numbers from v on?
 abbrev within : ℕ → ℕ → ℕ → Bool
 within v n x = leb v x && ltb x (v + n)
@@ -83,7 +78,7 @@ within-suc v n x = elim (ℕ-discrete x v) [
   | yes e ↦ rw (eq-eqb x v e) (sym (true-within v (suc n) x (omega arith) (omega arith)))
   | no e ↦
       rw (ne-eqb x v e)
-      (same-test _ _ (λ t. true-within v (suc n) x (omega (arith, within-true (suc v) n x t)) (omega (arith, within-true (suc v) n x t)))
+      (both-ways _ _ (λ t. true-within v (suc n) x (omega (arith, within-true (suc v) n x t)) (omega (arith, within-true (suc v) n x t)))
       (λ t. true-within (suc v) n x (omega (arith, within-true v (suc n) x t)) (omega (arith, within-true v (suc n) x t))))
 ]
 
@@ -91,12 +86,12 @@ within-suc v n x = elim (ℕ-discrete x v) [
 module _ (r : Range) (size m : ℕ) (number : ℕ → ℕ) (by-number : (s a : ℕ) → coversOf r s a ≡ eqb (number a) (number s)) (of-start : (v : ℕ) → v < m → number (v * size) ≡ v) where
   run-named : (v n a : ℕ) → v + n ≤ m → named r (startsOf size v n) a ≡ within v n (number a)
   unfolding named startsOf
-  run-named v zero a h = same-test _ _ (λ e. absurd (true≢false (sym e))) (λ e. absurd (omega (arith, within-true v 0 (number a) e)))
+  run-named v zero a h = both-ways _ _ (λ e. absurd (true≢false (sym e))) (λ e. absurd (omega (arith, within-true v 0 (number a) e)))
   run-named v (suc n) a h = rw (by-number, of-start v (omega arith), run-named (suc v) n a (omega arith)) (within-suc v n (number a))
 
 -- the m parts of the whole whose number is w
 whole-parts : (m w x y : ℕ) → 0 < m → x / m ≡ y → within (w * m) m x ≡ eqb y w
-whole-parts m w x y pos e = same-test _ _
+whole-parts m w x y pos e = both-ways _ _
     (λ t. eq-eqb y w (sym e ∙ div-eq-of-lt-le m (within-true (w * m) m x t .0) (omega (arith, within-true (w * m) m x t .1))))
     (λ t. let q : x / m ≡ w = e ∙ eqb-true y w t in true-within (w * m) m x (rw q at (div-mul-le-self x m)) (rw q at (lt-div-mul-add {a = x} pos)))
 

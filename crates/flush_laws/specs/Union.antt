@@ -10,17 +10,13 @@ use lib.ListN.{length, getD}
 use lib.Seq.{ext-getD, set-getD}
 use borrow.Author.Tests.{eqb-true, eq-eqb}
 use Rattle.words.specs.Words.{pick}
-use Rattle.words.specs.Laws.{and-left, and-right}
+use Rattle.words.specs.Laws.{and-left, and-right, ruled-out}
 use Rattle.lines.specs.Lines.{modified, tagAt, tagWord, lineAddress}
 use Rattle.flush.specs.declared.Range.{Range}
 use Rattle.flush.specs.declared.Kind.{Kind}
 use Rattle.flush.specs.Flush.{coversOf, copiesOf, wellOf, Sweep, swept}
 use Rattle.flush_laws.specs.Sweep.{_∪_, flushBy, flushOf, after, isCopied, linesTo, ramTo, countTo, FitsTo, Fits, andThen, flushEach, named, sweep-by}
 use Rattle.flush_laws.specs.Point.{after-address, after-modified, after-union, length-linesTo, linesTo-code, linesTo-later, linesTo-done, lines-ext, hits, newest, length-ramTo, ramTo-at, sweep-runs, First, fit, stops, first, sweep-stops}
-
-pub fails : (b : Bool) → (b ≡ true → ⊥) → b ≡ false
-fails true f = absurd (f refl)
-fails false f = refl
 
 -- ---- the newest word
 
@@ -41,7 +37,7 @@ module _ (d cs : List ℕ) (a v : ℕ) where
   newest-hit p e zero h f = absurd (omega arith)
   newest-hit p e (suc n) h f = elim (ℕ-discrete n p) [
     | yes q ↦ rw (q, e)
-    | no q ↦ rw (fails (hits d a n) (λ t. q (f n (omega arith) t))) (newest-hit p e n (omega arith) (λ r l. f r (omega arith)))
+    | no q ↦ rw (ruled-out (hits d a n) (λ t. q (f n (omega arith) t))) (newest-hit p e n (omega arith) (λ r l. f r (omega arith)))
   ]
 
 -- ---- a word that is copied, where no later line is copied onto it
@@ -63,7 +59,7 @@ kept-word k c cs ls ram {n} f a g = ramTo-at k c cs ls ram f n a (omega arith) �
     go : (K C : Bool) → copiesOf k ≡ K → c (a / 4 * 16) ≡ C → pick (K && C) (newest ls cs a (getD ram a 0) n) (getD ram a 0) ≡ getD ram a 0
     go false C x y = refl
     go true false x y = refl
-    go true true x y = newest-none ls cs a (getD ram a 0) n λ p h. fails _ λ e.
+    go true true x y = newest-none ls cs a (getD ram a 0) n λ p h. ruled-out _ λ e.
         let same : a / 4 * 16 ≡ lineAddress p (tagWord ls p) = eqb-true _ _ (and-right (modified (tagWord ls p)) _ e) in
         g p h (rw (x, ap c (sym same) ∙ y) (and-left (modified (tagWord ls p)) _ e)) same
 

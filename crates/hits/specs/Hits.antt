@@ -7,7 +7,7 @@ use Rattle.words.specs.Words.{pick, bitOf}
 use Rattle.lines.specs.Lines.{stateOf, tagWord, hitOf}
 use Rattle.pages.specs.declared.Translation.{Translation}
 use Rattle.pages.specs.Pages.{unmappedOf, portOf, blockOf, pagedOf, protectionOf}
-use Rattle.pages.specs.Patc.{frameWord, entryOf}
+use Rattle.patc.specs.Patc.{frameWord, entryOf}
 use Rattle.hits.specs.declared.Way.{Way}
 use Rattle.hits.specs.declared.Hit.{Hit}
 

@@ -5,7 +5,7 @@ use mathlib.Core.List.{List}
 use mathlib.Core.Path.{_≡_, refl, sym, ap, _∙_}
 use native.Mathlib.Omega.{arith}
 use lib.Dec.{eqb, leb, ltb}
-use borrow.Author.Tests.{lt-ltb}
+use borrow.Author.Tests.{lt-ltb, not-true, not-false}
 use Rattle.words.specs.Words.{pick, bitOf, keepOf}
 use Rattle.words.specs.Laws.{and-left, and-right, or-left, or-right}
 use Rattle.state.specs.declared.Access.{Access}
@@ -14,11 +14,11 @@ use Rattle.state.specs.declared.Registers.{Registers}
 use Rattle.state.specs.declared.Outcome.the-variants.{Word, Written}
 use Rattle.lines.specs.Lines.{stateOf, tagWord, hitOf, marked, usedAt, wordAt, mergedAt}
 use Rattle.pages.specs.declared.Translation.{Translation}
-use Rattle.pages.specs.declared.lookup.Lookup.{Lookup}
-use Rattle.pages.specs.declared.lookup.Lookup.the-variants.{Found}
+use Rattle.lookup.specs.declared.Lookup.{Lookup}
+use Rattle.lookup.specs.declared.Lookup.the-variants.{Found}
 use Rattle.pages.specs.Pages.{unmappedOf, portOf, blockOf, pagedOf, protectionOf}
-use Rattle.pages.specs.Patc.{frameWord, entryOf}
-use Rattle.pages.specs.Lookup.{placeOf, guardedOf, enteredOf, judgeOf}
+use Rattle.patc.specs.Patc.{frameWord, entryOf}
+use Rattle.lookup.specs.Lookup.{placeOf, guardedOf, enteredOf, judgeOf}
 use Rattle.flight.specs.Steps.{Scene, goOf, cacheOf, readOf, writeOf, opening, accessOf as stepsOf}
 use Rattle.driver.specs.Alone.{Memory, memory, alone}
 use Rattle.commands.specs.Registers.{areaOf, withPointer}
@@ -27,14 +27,6 @@ use Rattle.unit.specs.Unit.{Whole, whole, endedBy, mappedOf, accessOf}
 use Rattle.hits.specs.declared.Way.{Way}
 use Rattle.hits.specs.declared.Hit.{Hit}
 use Rattle.hits.specs.Hits.{clearFor, wayOf, pageWayOf, noWay, foundOf, keptOf, noHit, lineAt, hitBy, lookOf}
-
-not-false : (b : Bool) → not b ≡ false → b ≡ true
-not-false true e = refl
-not-false false e = sym e
-
-not-true : (b : Bool) → not b ≡ true → b ≡ false
-not-true true e = sym e
-not-true false e = refl
 
 through : (t : Translation) (s write : Bool) → clearFor t s write ≡ true → (t .ci || (write && t .wt)) ≡ false
 through t s write e = not-true _ (and-left (not (t .ci || (write && t .wt))) _ e)

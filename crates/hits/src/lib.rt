@@ -62,10 +62,10 @@ fn found(
     if words::bit(port, 0) {
         return way_of(pages::block(port, address), supervisor, write);
     }
-    let n = pages::patc::entry(patc, address, supervisor);
+    let n = patc::entry(patc, address, supervisor);
     if n < 56 {
         return page_way(
-            pages::paged(pages::patc::frame(patc, n), address),
+            pages::paged(patc::frame(patc, n), address),
             supervisor,
             write,
         );

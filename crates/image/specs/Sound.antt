@@ -9,6 +9,7 @@ use native.Mathlib.Decide.{ℕ-discrete}
 use borrow.Author.Tests.{eq-eqb, eqb-true, ltb-true, ltb-false, not-true, not-false}
 use lib.Dec.{eqb, ltb}
 use lib.ListN.{length}
+use Rattle.words.specs.Laws.{ruled-out}
 use Rattle.words.specs.Words.{bitsOf, pick}
 use Rattle.order.specs.Order.{isOrder}
 use Rattle.order.specs.Laws.{below, below-at}
@@ -233,15 +234,11 @@ pub well-checked : (c : Chip) → WellFormed c → (bitsRight c ≡ true) × (no
 unfolding noDoubles
 well-checked c w = (own-right c (w .sized) (w .own) (w .orders), rw (below-of 256 _ sets, pages))
   where
-    differs : (b : Bool) → (b ≡ true → ⊥) → b ≡ false
-    differs true h = absurd (h refl)
-    differs false h = refl
-
     sets : (s : ℕ) → s < 256 → apart Line 4 (lineOf c s) ≡ true
-    sets s h = apart-of Line 4 (lineOf c s) (λ i j k l. differs _ (λ e. let q = w .lines s i j h (omega arith) l (one-tag _ _ e) in omega arith))
+    sets s h = apart-of Line 4 (lineOf c s) (λ i j k l. ruled-out _ (λ e. let q = w .lines s i j h (omega arith) l (one-tag _ _ e) in omega arith))
 
     pages : apart Entry 56 (pageOf c) ≡ true
-    pages = apart-of Entry 56 (pageOf c) (λ i j k l. differs _ (λ e. let q = w .entries i j (omega arith) l (one-page _ _ e) in omega arith))
+    pages = apart-of Entry 56 (pageOf c) (λ i j k l. ruled-out _ (λ e. let q = w .entries i j (omega arith) l (one-page _ _ e) in omega arith))
 
 -- the same of lines by their place, 4 x set + number
 abbrev pub OnePlace : Chip → Type 0

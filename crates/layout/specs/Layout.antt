@@ -5,7 +5,7 @@ use mathlib.Core.List.{List, [], _∷_}
 use mathlib.Core.Path.{_≡_, refl, sym, ap, _∙_}
 use native.Mathlib.Nat.{suc-inj, suc-ne-zero}
 use lib.ListN.{length, getD, take, drop}
-use Rattle.words.specs.Words.{pick, bitOf}
+use Rattle.words.specs.Words.{pick, bitOf, flagOf}
 use Rattle.state.specs.declared.Access.{Access}
 use Rattle.state.specs.declared.Answer.{Answer}
 use Rattle.state.specs.declared.Registers.{Registers}
@@ -43,9 +43,6 @@ unitOf u =
 unfoldable pub accessAs : ℕ → ℕ → ℕ → ℕ → Access
 accessAs address kind enables word =
     record { address = address; supervisor = bitOf kind 7; write = bitOf kind 6; lock = bitOf kind 5; enables = enables; word = word }
-
-abbrev pub flagOf : Bool → ℕ → ℕ
-flagOf b value = pick b value 0
 
 -- a transaction's bits: 0 write, 1 G, 2 IM, 3 LK, 4 CI
 unfoldable pub bitsOf : Transaction → ℕ

@@ -6,7 +6,7 @@ use state::Registers;
 use state::Transaction;
 ghost use mathlib.Core.Path.{_≡_};
 ghost use Prim.Native.Nat.{_≤_};
-ghost use Rattle.layout.specs.Layout.{registersOf, unitOf, flagOf, bitsOf, rowOf, accessAs, countOf, replyOf, snoopedOf};
+ghost use Rattle.layout.specs.Layout.{registersOf, unitOf, bitsOf, rowOf, accessAs, countOf, replyOf, snoopedOf};
 
 // A transaction in a reply: its bits, address and words.
 pub struct Row {
@@ -80,17 +80,15 @@ pub fn access(address: u32, kind: u32, enables: u32, word: u32) -> Access
     }
 }
 
-fn flag(b: bool, value: u32) -> u32
-    ensures { λ r. ⌜ (r ≡ flagOf b value) × (r ≤ value) ⌝ }
-{
-    if b { value } else { 0 }
-}
-
 // A transaction's bits: 0 write, 1 G, 2 IM, 3 LK, 4 CI.
 fn bits(t: Transaction) -> u32
     ensures { λ r. ⌜ r ≡ bitsOf t ⌝ }
 {
-    flag(t.write, 1) + flag(t.g, 2) + flag(t.im, 4) + flag(t.lk, 8) + flag(t.ci, 16)
+    words::flag(t.write, 1)
+        + words::flag(t.g, 2)
+        + words::flag(t.im, 4)
+        + words::flag(t.lk, 8)
+        + words::flag(t.ci, 16)
 }
 
 // A transaction as three words.

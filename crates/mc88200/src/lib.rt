@@ -1,22 +1,8 @@
 // The calls as C functions on plain arrays: include/mc88200.h says what each does.
-mod exports;
-mod quick;
-
 use state::FaultPair;
 ghost use mathlib.Core.Path.{_≡_};
 ghost use Rattle.image.specs.Image.{saved};
-ghost use Rattle.mc88200.specs.Exports.{accessOut, accessExport, snoopOut, snoopExport, readOut, readExport, writeOut, writeExport, unitOut, resetExport, restoreExport, saveExport};
-
-// What a call answers, and the fault pair that it leaves.
-pub struct Called {
-    pub pair: FaultPair,
-    pub number: u32,
-}
-
-// .. of a call that leaves the pair alone.
-pub struct Numbered {
-    pub number: u32,
-}
+ghost use Rattle.exports.specs.Exports.{accessOut, accessExport, snoopOut, snoopExport, readOut, readExport, writeOut, writeExport, unitOut, resetExport, restoreExport, saveExport};
 
 #[no_mangle]
 pub extern "C" fn mc88200_reset(

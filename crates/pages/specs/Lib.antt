@@ -1,4 +1,2 @@
 pub mod Pages
-pub mod Patc
-pub mod Lookup
 pub mod Laws

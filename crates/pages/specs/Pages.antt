@@ -3,16 +3,12 @@ use Prim.Native.Nat.{ℕ, _+_, _*_, _/_, _%_}
 use mathlib.Core.Bool.{Bool, true, false, not, _&&_, _||_, Bool·beq}
 use mathlib.Core.List.{List, [], _∷_}
 use lib.Dec.{eqb}
-use Rattle.words.specs.Words.{pick, bitsOf, bitOf}
+use Rattle.words.specs.Words.{pick, bitsOf, bitOf, flagOf}
 use Rattle.pages.specs.declared.Translation.{Translation}
 
 -- are two tests alike?
 abbrev pub same : Bool → Bool → Bool
 same a b = Bool·beq a b
-
--- a flag's weight where it is set
-abbrev pub flagOf : Bool → ℕ → ℕ
-flagOf b weight = pick b weight 0
 
 -- TE clear: the address stays as it is, with the area pointer's WT, G, CI
 unfoldable pub unmappedOf : ℕ → ℕ → Translation

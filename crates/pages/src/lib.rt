@@ -1,6 +1,4 @@
 // From logical to physical: the block translations (BATC), the page translations (PATC) and the descriptors of a table search.
-pub mod lookup;
-pub mod patc;
 pub mod tables;
 
 ghost use mathlib.Core.Path.{_≡_};
@@ -46,7 +44,7 @@ fn port_key(port: u32) -> u32
 fn block_key(address: u32, supervisor: bool) -> u32
     ensures { λ r. ⌜ r ≡ blockKey address supervisor ⌝ }
 {
-    words::bits(address, 31, 19) * 524288 + tables::flag(supervisor, 32) + 1
+    words::bits(address, 31, 19) * 524288 + words::flag(supervisor, 32) + 1
 }
 
 // The word of the lowest port that an address hits, or 0: no port that is not valid hits.

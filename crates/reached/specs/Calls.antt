@@ -6,6 +6,7 @@ use mathlib.Core.List.{List}
 use native.Mathlib.Omega.{arith}
 use lib.Dec.{eqb, ltb, leb}
 use borrow.Author.Tests.{ltb-true}
+use Rattle.flush.specs.Laws.{after-small}
 use Rattle.words.specs.Words.{bitOf, bitsOf}
 use Rattle.words.specs.Laws.{either, and-left, and-right}
 use Rattle.memory.specs.Memory.{Wrote, writeLineOf}
@@ -47,9 +48,6 @@ use Rattle.reached.specs.Registers.{scr-good, ssr-good, pointer-good, se
 record Sweeps (x : Sweep) : Type 0 where
   lines : GoodLines (x .lines)
   failing : x .flushed .failing < 2 ^ 32
-
-after-small : (k : Kind) → afterOf k < 4
-after-small k = either (λ (n : ℕ). n < 4) (dropsOf k) (λ _. omega arith) (λ _. omega arith)
 
 module _ (k : Kind) (r : Range) (sar : ℕ) (cs : List ℕ) where
   line-good : (p : ℕ) → p < 1024 → (ls ram : List ℕ) → GoodLines ls → Sweeps (lineOf k r sar cs p ls ram)

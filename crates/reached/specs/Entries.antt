@@ -10,14 +10,15 @@ use lib.Dec.{eqb, ltb}
 use lib.ListN.{length, getD, set, length-set}
 use lib.Seq.{getD-set-same, getD-set-other}
 use borrow.Author.Tests.{ne-eqb, eqb-false}
-use Rattle.words.specs.Words.{bitsOf, bitOf}
+use Rattle.words.specs.Words.{bitsOf, bitOf, flagOf}
 use Rattle.words.specs.Laws.{either}
 use Rattle.state.specs.Own.{ownTag, ownPointer, pointer-small, tag-fields}
 use Rattle.pages.specs.declared.Translation.{Translation}
-use Rattle.pages.specs.declared.patc.Range.{Range}
-use Rattle.pages.specs.Pages.{same, flagOf, pageWordOf, frameWordOf}
-use Rattle.pages.specs.Patc.{pageWord, entryOf, freeOf, putOf, steppedOf, Loaded, loadOf, named, clearedWord, clearedTo, clearedOf}
-use Rattle.pages.specs.Laws.{length-put, load-alone, renew-alone, kept-alone, word-own, frame-own}
+use Rattle.patc.specs.declared.Range.{Range}
+use Rattle.pages.specs.Pages.{same, pageWordOf, frameWordOf}
+use Rattle.patc.specs.Patc.{pageWord, entryOf, freeOf, putOf, steppedOf, Loaded, loadOf, named, clearedWord, clearedTo, clearedOf}
+use Rattle.pages.specs.Laws.{word-own, frame-own}
+use Rattle.patc.specs.Laws.{length-put, load-alone, renew-alone, kept-alone}
 use Rattle.image.specs.declared.Layout.the-variants.{Entries}
 use Rattle.image.specs.Chip.{ownWords}
 use Rattle.image.specs.Own.{own-at, page-own, frame-own as frame-place}

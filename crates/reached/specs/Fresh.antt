@@ -14,7 +14,7 @@ use Rattle.state.specs.Own.{ownIdr, ownScr, ownSsr, ownSctr, ownStatus, ownArea
 use Rattle.state.specs.Reset.{resetOf, noFault}
 use Rattle.lines.specs.Lines.{tagAt, codeAt}
 use Rattle.lines.specs.Laws.{NoDoubles}
-use Rattle.pages.specs.Laws.{NoTwins}
+use Rattle.patc.specs.Laws.{NoTwins}
 use Rattle.unit.specs.Fresh.{clearedOf, freshWord, freshLines}
 use Rattle.fields.specs.Fields.{Words}
 use Rattle.image.specs.declared.Layout.the-variants.{Entries, Sets}

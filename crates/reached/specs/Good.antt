@@ -14,7 +14,7 @@ use Rattle.state.specs.declared.FaultPair.{FaultPair}
 use Rattle.state.specs.Own.{ownIdr, ownScr, ownSsr, ownSctr, ownStatus, ownArea, ownPointer, pointer-small, pointer-own}
 use Rattle.lines.specs.Lines.{codeAt}
 use Rattle.lines.specs.Laws.{NoDoubles}
-use Rattle.pages.specs.Laws.{NoTwins}
+use Rattle.patc.specs.Laws.{NoTwins}
 use Rattle.fields.specs.Fields.{Words}
 use Rattle.image.specs.declared.Layout.{Layout}
 use Rattle.image.specs.declared.Layout.the-variants.{Entries, Sets}

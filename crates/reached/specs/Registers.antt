@@ -6,7 +6,7 @@ use mathlib.Core.List.{List}
 use native.Mathlib.Omega.{arith}
 use lib.Dec.{eqb, ltb, leb}
 use lib.ListN.{set, length-set}
-use Rattle.words.specs.Words.{bitOf, bitsOf}
+use Rattle.words.specs.Words.{bitOf, bitsOf, flagOf}
 use Rattle.words.specs.Laws.{either}
 use Rattle.memory.specs.declared.Read.{Read}
 use Rattle.memory.specs.Memory.{readOf as readWordOf}
@@ -14,11 +14,11 @@ use Rattle.state.specs.declared.Registers.{Registers}
 use Rattle.state.specs.declared.FaultPair.{FaultPair}
 use Rattle.state.specs.Own.{ownScr, ownSsr, ownSctr, ownArea, own-ssr, own-sctr, own-status, own-area, ssr-fields}
 use Rattle.pages.specs.declared.Translation.{Translation}
-use Rattle.pages.specs.declared.lookup.Place.{Place}
-use Rattle.pages.specs.Pages.{flagOf, unmappedOf, portOf, blockOf, pagedOf, segmentAt, pageAt, combinedOf}
-use Rattle.pages.specs.Patc.{entryOf, frameWord}
+use Rattle.lookup.specs.declared.Place.{Place}
+use Rattle.pages.specs.Pages.{unmappedOf, portOf, blockOf, pagedOf, segmentAt, pageAt, combinedOf}
+use Rattle.patc.specs.Patc.{entryOf, frameWord}
 use Rattle.pages.specs.Laws.{flag-bit}
-use Rattle.pages.specs.Lookup.{placeOf}
+use Rattle.lookup.specs.Lookup.{placeOf}
 use Rattle.commands.specs.declared.registers.Ran.{Ran}
 use Rattle.commands.specs.Registers.{areaOf, withScr, withSsr, withSar, withSctr, withSapr, withUapr, withPointer, withPort, setFaultOf, setPortOf, setRegisterOf}
 use Rattle.commands.specs.Probe.{ceOf, statusOf, foundOf, missingOf, failedOf, pageOf, tablesOf, placedOf, probeOf}

@@ -20,15 +20,15 @@ use Rattle.state.specs.declared.Transaction.{Transaction}
 use Rattle.state.specs.declared.Outcome.{Outcome}
 use Rattle.state.specs.declared.Outcome.the-variants.{Idle, Word, Written, Failed}
 use Rattle.pages.specs.declared.Translation.{Translation}
-use Rattle.pages.specs.declared.lookup.Place.{Place}
-use Rattle.pages.specs.declared.lookup.Lookup.{Lookup}
-use Rattle.pages.specs.declared.lookup.Lookup.the-variants.{Found, Search, Violation}
-use Rattle.pages.specs.declared.lookup.Walked.{Walked}
-use Rattle.pages.specs.declared.lookup.Walked.the-variants.{Update, Complete, Violation as Barred}
+use Rattle.lookup.specs.declared.Place.{Place}
+use Rattle.lookup.specs.declared.Lookup.{Lookup}
+use Rattle.lookup.specs.declared.Lookup.the-variants.{Found, Search, Violation}
+use Rattle.lookup.specs.declared.Walked.{Walked}
+use Rattle.lookup.specs.declared.Walked.the-variants.{Update, Complete, Violation as Barred}
 use Rattle.pages.specs.Pages.{unmappedOf, portOf, blockOf, pagedOf, protectionOf, segmentAt, pageAt, combinedOf, staleOf, renewedOf, pageWordOf, frameWordOf}
-use Rattle.pages.specs.Patc.{frameWord, entryOf, putOf as putEntry}
-use Rattle.pages.specs.Laws.{entry-le}
-use Rattle.pages.specs.Lookup.{placeOf, guardedOf, enteredOf, judgeOf, walkedOf}
+use Rattle.patc.specs.Patc.{frameWord, entryOf, putOf as putEntry}
+use Rattle.patc.specs.Laws.{entry-le}
+use Rattle.lookup.specs.Lookup.{placeOf, guardedOf, enteredOf, judgeOf, walkedOf}
 use Rattle.flight.specs.Steps.{Scene, Ended, ended, noted, withLines, withCache, withPatc, moves, storeOf, readOf, fillOf, copybackOf, missAt, writeOf, singleX, singleOf, inhibitedOf, cacheOf, walks, loadedOf, finishOf, pageOf, searchOf, goOf, accessOf}
 use Rattle.driver.specs.Alone.{Memory, memory, alone}
 use Rattle.fields.specs.Fields.{Words}

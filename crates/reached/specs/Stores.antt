@@ -6,6 +6,7 @@ use native.Mathlib.Omega.{arith}
 use lib.Dec.{ltb, leb}
 use lib.ListN.{length, getD, set, take, drop, length-set}
 use lib.Seq.{getD-drop}
+use Rattle.memory.specs.Laws.{length-put}
 use Rattle.words.specs.Laws.{either, merge-small}
 use Rattle.memory.specs.declared.Moved.{Moved}
 use Rattle.memory.specs.declared.Read.{Read}
@@ -37,10 +38,6 @@ words-put ws at part h p =
     let w2 : List ℕ = set w1 (at + 1) (getD part 1 0) in
     let w3 : List ℕ = set w2 (at + 2) (getD part 2 0) in
     words-set w3 (at + 3) (getD part 3 0) (words-set w2 (at + 2) (getD part 2 0) (words-set w1 (at + 1) (getD part 1 0) (words-set ws at (getD part 0 0) h (p 0)) (p 1)) (p 2)) (p 3)
-
-length-put : (ws : List ℕ) (at : ℕ) (part : List ℕ) → length (putOf ws at part) ≡ length ws
-unfolding putOf
-length-put ws at part = simp length-set
 
 -- ---- cache data
 

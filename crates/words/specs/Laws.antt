@@ -11,6 +11,17 @@ pub either {ℓ} : {A : Type ℓ} (P : A → Type 0) (b : Bool) {x y : A} → (b
 either P true p q = p refl
 either P false p q = q refl
 
+-- two tests that pass together are one
+pub both-ways : (a b : Bool) → (a ≡ true → b ≡ true) → (b ≡ true → a ≡ true) → a ≡ b
+both-ways true b f g = sym (f refl)
+both-ways false true f g = g refl
+both-ways false false f g = refl
+
+-- a test that cannot pass fails
+pub ruled-out : (b : Bool) → (b ≡ true → ⊥) → b ≡ false
+ruled-out true f = absurd (f refl)
+ruled-out false f = refl
+
 -- both parts of a test that both parts pass
 pub and-left : (a b : Bool) → (a && b) ≡ true → a ≡ true
 and-left true b e = refl

@@ -35,3 +35,7 @@ mergeOf enables old new = joinOf (laneOf enables old new 3) (laneOf enables old 
 -- bytes not enabled read as 0
 abbrev pub keepOf : ℕ → ℕ → ℕ
 keepOf enables w = mergeOf enables 0 w
+
+-- a flag's weight where it is set
+abbrev pub flagOf : Bool → ℕ → ℕ
+flagOf set weight = pick set weight 0

@@ -1,7 +1,7 @@
 // The smallest room: the fields of a word, and its four bytes.
 ghost use mathlib.Core.Path.{_≡_};
 ghost use Prim.Native.Nat.{_-_, _+_, _^_, _<_, _≤_};
-ghost use Rattle.words.specs.Words.{bitsOf, bitOf, byteOf, laneOf, mergeOf, keepOf, joinOf};
+ghost use Rattle.words.specs.Words.{bitsOf, bitOf, byteOf, laneOf, mergeOf, keepOf, joinOf, flagOf};
 
 // Bits `high` to `low` of a word.
 pub fn bits(w: u32, high: u32, low: u32) -> u32
@@ -70,4 +70,11 @@ pub fn join(top: u8, upper: u8, lower: u8, last: u8) -> u32
     ensures { λ r. ⌜ r ≡ joinOf top upper lower last ⌝ }
 {
     wide(top) * 16777216 + wide(upper) * 65536 + wide(lower) * 256 + wide(last)
+}
+
+// A flag's weight where it is set.
+pub fn flag(set: bool, weight: u32) -> u32
+    ensures { λ r. ⌜ (r ≡ flagOf set weight) × (r ≤ weight) ⌝ }
+{
+    if set { weight } else { 0 }
 }

@@ -7,14 +7,14 @@ use Rattle.calls.proofs.Door.{stayed, ends, meets, Returned}
 use Rattle.state.specs.declared.FaultPair.{FaultPair as FaultPairR}
 use Rattle.state.proofs.FaultPair as FaultPair
 use Rattle.state.proofs.FaultPair.Laws as FaultPair′
-use Rattle.mc88200.specs.declared.Numbered.{Numbered as NumberedR}
-use Rattle.mc88200.proofs.Numbered as Numbered
-use Rattle.mc88200.proofs.Numbered.Laws as Numbered′
-use Rattle.mc88200.specs.Exports.{readOut, readExport}
-use Rattle.mc88200.proofs.exports.read_register as core
-use Rattle.mc88200.proofs.exports.read_register.Symbol as core-def
-use Rattle.mc88200.proofs.exports.read_register.Symbol.{name as #core}
-use Rattle.mc88200.proofs.exports.read_register.Met as core-thm
+use Rattle.exports.specs.declared.Numbered.{Numbered as NumberedR}
+use Rattle.exports.proofs.Numbered as Numbered
+use Rattle.exports.proofs.Numbered.Laws as Numbered′
+use Rattle.exports.specs.Exports.{readOut, readExport}
+use Rattle.exports.proofs.read_register as core
+use Rattle.exports.proofs.read_register.Symbol as core-def
+use Rattle.exports.proofs.read_register.Symbol.{name as #core}
+use Rattle.exports.proofs.read_register.Met as core-thm
 use Rattle.mc88200.proofs.mc88200_read_register.Key.{name as #door}
 use Rattle.mc88200.proofs.mc88200_read_register as f
 use Rattle.mc88200.proofs.mc88200_read_register.Statement as stated
@@ -88,4 +88,4 @@ mc88200-read-register-spec 𝓤 H 𝓜 𝓖 𝓡 =
     entered 𝓤 H (tripleOf 𝓤 H (𝓖 .A) f.signature (f.spec 𝓤 H (𝓖 .A) (𝓜 .mem) (𝓡 .run)))
     (tables 𝓤 H 𝓜 𝓡 code.env .C) (tables 𝓤 H 𝓜 𝓡 code.env .Λ) #door code.function (code.unfolded 𝓤 H 𝓜 𝓡)
     (mc88200-read-register-meets 𝓤 H (𝓖 .A) (givenOf 𝓤 H 𝓜 𝓖) (𝓜 .mem) (𝓡 .run) (tablesOf 𝓤 H 𝓜 (tables 𝓤 H 𝓜 𝓡 code.env))
-    (cited 𝓤 H (CoreC 𝓤 H (𝓖 .A) (𝓜 .mem) (𝓡 .run)) 𝓜 𝓡 code.env #core core-def.routine code.calls-mc88200·exports·read-register (core-thm.met 𝓤 H 𝓜 𝓖 𝓡)))
+    (cited 𝓤 H (CoreC 𝓤 H (𝓖 .A) (𝓜 .mem) (𝓡 .run)) 𝓜 𝓡 code.env #core core-def.routine code.calls-exports·read-register (core-thm.met 𝓤 H 𝓜 𝓖 𝓡)))

@@ -1,0 +1,128 @@
+-- An access that only touches a line of the cache, told from the words of a unit, and what a call then answers.
+use Prim.Native.Nat.{ℕ, _<_}
+use mathlib.Core.Bool.{Bool, true, false, not, _&&_, false≢true}
+use mathlib.Core.List.{List, [], _∷_}
+use mathlib.Core.Path.{_≡_, refl, sym, ap, _∙_}
+use native.Mathlib.Omega.{arith}
+use lib.Dec.{eqb, leb}
+use lib.ListN.{length}
+use Rattle.words.specs.Words.{pick, bitOf, keepOf}
+use Rattle.state.specs.declared.Access.{Access}
+use Rattle.state.specs.declared.FaultPair.{FaultPair}
+use Rattle.state.specs.declared.Registers.{Registers}
+use Rattle.lines.specs.Lines.{marked, usedAt, wordAt, mergedAt}
+use Rattle.commands.specs.Registers.{areaOf}
+use Rattle.unit.specs.Answers.{plainOf}
+use Rattle.unit.specs.Unit.{accessOf}
+use Rattle.hits.specs.declared.Hit.{Hit}
+use Rattle.hits.specs.Hits.{noHit, lookOf}
+use Rattle.hits.specs.Laws.{readAt, writtenAt, touchedAt, look-right}
+use Rattle.refusals.specs.Refusals.{accessRefusal}
+use Rattle.calls.specs.Calls.{accessTaken, accessBy as doneBy}
+use Rattle.layout.specs.Layout.{at, registersOf, unitOf, accessAs, bitsOf, replyOf, unit-kept}
+use Rattle.exports.specs.Exports.{AccessOut, accessOut, accessBy, accessExport}
+
+-- an access that is neither idle nor locked, outside control space
+abbrev pub plainAccess : ℕ → ℕ → ℕ → Bool
+plainAccess address kind enables = not (eqb enables 0) && not (bitOf kind 5) && not (bitOf kind 7 && leb 0xFFF00000 address)
+
+abbrev pub areaAt : List ℕ → Bool → ℕ
+areaAt unit s = pick s (at unit 5) (at unit 6)
+
+unfoldable pub quickOf : List ℕ → List ℕ → List ℕ → ℕ → ℕ → ℕ → Hit
+quickOf unit ps ls address kind enables =
+    pick (not (plainAccess address kind enables)) noHit (lookOf ls (areaAt unit (bitOf kind 7)) (registersOf unit .ports) ps address (bitOf kind 7) (bitOf kind 6))
+
+-- the reply to a word that was read, with no transaction
+unfoldable pub wordReply : ℕ → List ℕ
+wordReply w = 1 ∷ w ∷ 0 ∷ 0 ∷ 0 ∷ 0 ∷ 0 ∷ 0 ∷ 0 ∷ 0 ∷ 0 ∷ 0 ∷ 0 ∷ 0 ∷ 0 ∷ 0 ∷ 0 ∷ 0 ∷ 0 ∷ 0 ∷ 0 ∷ 0 ∷ 0 ∷ 0 ∷ []
+
+-- .. to one that was written
+unfoldable pub writtenReply : List ℕ
+writtenReply = 2 ∷ 0 ∷ 0 ∷ 0 ∷ 0 ∷ 0 ∷ 0 ∷ 0 ∷ 0 ∷ 0 ∷ 0 ∷ 0 ∷ 0 ∷ 0 ∷ 0 ∷ 0 ∷ 0 ∷ 0 ∷ 0 ∷ 0 ∷ 0 ∷ 0 ∷ 0 ∷ 0 ∷ []
+
+-- what a hit leaves: the line read or written, and used; the reply
+abbrev pub linesAfter : Bool → List ℕ → Hit → List ℕ
+linesAfter write ls h = pick write (usedAt (marked ls (h .place) 1) (h .place)) (usedAt ls (h .place))
+
+abbrev pub cellsAfter : Bool → List ℕ → Hit → ℕ → ℕ → List ℕ
+cellsAfter write cs h enables word = pick write (mergedAt cs (h .place) (h .address) enables word) cs
+
+abbrev pub replyAfter : Bool → List ℕ → Hit → ℕ → List ℕ
+replyAfter write cs h enables = pick write writtenReply (wordReply (keepOf enables (wordAt cs (h .place) (h .address))))
+
+-- ---- as a call answers it
+
+module _ (u : Registers) (p : FaultPair) (ps ls cs ram rom : List ℕ) (a : Access) where
+  pub answered : (unit reply : List ℕ) (h : Hit)
+      → accessBy unit reply (accessTaken (readAt u p ps ls cs ram rom a h)) ≡ accessOut 0 (unitOf u) p ps (usedAt ls (h .place)) cs ram (wordReply (keepOf (a .enables) (wordAt cs (h .place) (h .address))))
+  unfolding accessBy plainOf replyOf bitsOf wordReply
+  answered unit reply h = refl
+
+  pub stored : (unit reply : List ℕ) (h : Hit)
+      → accessBy unit reply (accessTaken (writtenAt u p ps ls cs ram rom a h)) ≡ accessOut 0 (unitOf u) p ps (usedAt (marked ls (h .place) 1) (h .place)) (mergedAt cs (h .place) (h .address) (a .enables) (a .word)) ram writtenReply
+  unfolding accessBy plainOf replyOf bitsOf writtenReply
+  stored unit reply h = refl
+
+three : (w x y : Bool) → (not w && not x && not y) ≡ true → (w ≡ false) × (x ≡ false) × (y ≡ false)
+three true x y e = absurd (false≢true e)
+three false true y e = absurd (false≢true e)
+three false false true e = absurd (false≢true e)
+three false false false e = (refl, refl, refl)
+
+module _ (unit : List ℕ) (p : FaultPair) (ps ls cs ram rom : List ℕ) (address kind enables word : ℕ) (reply : List ℕ) (long : length unit ≡ 16)
+    (taken : accessRefusal (length ram) (length rom) (length cs) address enables ≡ 0) where
+  abbrev asked : Access
+  asked = accessAs address kind enables word
+
+  abbrev quick : Hit
+  quick = quickOf unit ps ls address kind enables
+
+  quick-by : (b : Bool) → plainAccess address kind enables ≡ b → quick .place < 1024
+      → accessTaken (accessOf (registersOf unit) p ps ls cs ram rom asked) ≡ accessTaken (touchedAt (registersOf unit) p ps ls cs ram rom asked quick)
+  unfolding quickOf accessAs registersOf
+  quick-by false e l = absurd (omega (arith, rw (e) at l))
+  quick-by true e l =
+      let f = three _ _ _ e in
+      rw (e) (ap accessTaken (look-right (registersOf unit) p ps ls cs ram rom asked (f .1) (f .0) (f .2) (rw (e) at l)))
+
+  call-taken : accessExport unit p ps ls cs ram rom address kind enables word reply ≡ accessBy unit reply (accessTaken (accessOf (registersOf unit) p ps ls cs ram rom asked))
+  unfolding doneBy accessAs
+  call-taken = rw (taken)
+
+  call-quick : quick .place < 1024
+      → accessExport unit p ps ls cs ram rom address kind enables word reply ≡ accessBy unit reply (accessTaken (touchedAt (registersOf unit) p ps ls cs ram rom asked quick))
+  call-quick l = call-taken ∙ ap (accessBy unit reply) (quick-by (plainAccess address kind enables) refl l)
+
+  abbrev answerBy : Bool → AccessOut
+  answerBy b =
+      accessBy unit reply (accessTaken (pick b (writtenAt (registersOf unit) p ps ls cs ram rom asked quick) (readAt (registersOf unit) p ps ls cs ram rom asked quick)))
+
+  -- a read that hits: the word, the line used, and nothing else
+  quick-read : bitOf kind 6 ≡ false → quick .place < 1024
+      → accessOut 0 unit p ps (usedAt ls (quick .place)) cs ram (wordReply (keepOf enables (wordAt cs (quick .place) (quick .address)))) ≡ accessExport unit p ps ls cs ram rom address kind enables word reply
+  unfolding accessAs
+  quick-read reads l =
+      sym (call-quick l ∙ ap answerBy reads ∙ answered (registersOf unit) p ps ls cs ram rom asked unit reply quick ∙ rw (unit-kept unit long))
+
+  -- a write that hits: the line written, modified and used
+  quick-write : bitOf kind 6 ≡ true → quick .place < 1024
+      → accessOut 0 unit p ps (usedAt (marked ls (quick .place) 1) (quick .place)) (mergedAt cs (quick .place) (quick .address) enables word) ram writtenReply ≡ accessExport unit p ps ls cs ram rom address kind enables word reply
+  unfolding accessAs
+  quick-write writes l =
+      sym (call-quick l ∙ ap answerBy writes ∙ stored (registersOf unit) p ps ls cs ram rom asked unit reply quick ∙ rw (unit-kept unit long))
+
+  pub quick-right : quick .place < 1024
+      → accessOut 0 unit p ps (linesAfter (bitOf kind 6) ls quick) (cellsAfter (bitOf kind 6) cs quick enables word) ram (replyAfter (bitOf kind 6) cs quick enables) ≡ accessExport unit p ps ls cs ram rom address kind enables word reply
+  quick-right l = by (bitOf kind 6) refl
+    where
+      by : (b : Bool) → bitOf kind 6 ≡ b
+          → accessOut 0 unit p ps (linesAfter b ls quick) (cellsAfter b cs quick enables word) ram (replyAfter b cs quick enables) ≡ accessExport unit p ps ls cs ram rom address kind enables word reply
+      by true e = quick-write e l
+      by false e = quick-read e l
+
+-- a refusal changes nothing
+pub refused-right : (unit : List ℕ) (p : FaultPair) (ps ls cs ram rom : List ℕ) (address kind enables word : ℕ) (reply : List ℕ) (n : ℕ) → n ≡ accessRefusal (length ram) (length rom) (length cs) address enables → eqb n 0 ≡ false
+    → accessOut n unit p ps ls cs ram reply ≡ accessExport unit p ps ls cs ram rom address kind enables word reply
+unfolding doneBy accessBy accessAs
+refused-right unit p ps ls cs ram rom address kind enables word reply n e none = rw (← e, none, none)

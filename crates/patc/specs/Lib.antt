@@ -1,0 +1,2 @@
+pub mod Patc
+pub mod Laws
