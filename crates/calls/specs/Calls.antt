@@ -15,10 +15,10 @@ use Rattle.flush.specs.declared.snoop.Snooped.{Snooped}
 use Rattle.flush.specs.declared.snoop.Snooped.the-variants.{Clear}
 use Rattle.unit.specs.Answers.{plainOf}
 use Rattle.unit.specs.Fresh.{clearedOf, freshLines}
-use Rattle.commands.specs.Registers.{readOf}
+use Rattle.registers.specs.Registers.{readOf}
 use Rattle.unit.specs.Unit.{Kept, Whole, Snooping, writeOf, accessOf, snoopOf}
-use Rattle.image.specs.Chip.{Chip, chip}
-use Rattle.image.specs.Image.{Saved, saved, saveOf, readOf as unitAt}
+use Rattle.saved.specs.Chip.{Chip, chip}
+use Rattle.saved.specs.Image.{Saved, saved, saveOf, readOf as unitAt}
 use Rattle.calls.specs.declared.AccessReply.{AccessReply}
 use Rattle.calls.specs.declared.SnoopReply.{SnoopReply}
 use Rattle.calls.specs.declared.ReadReply.{ReadReply}

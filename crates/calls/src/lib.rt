@@ -1,7 +1,7 @@
 // The calls with the fault pair by value: what a call takes is tested, then the unit answers.
-use commands::registers::Stored;
 use flush::snoop::Snooped;
-use image::Restored;
+use registers::Stored;
+use saved::Restored;
 use state::Access;
 use state::Answer;
 use state::FaultPair;
@@ -11,8 +11,8 @@ use unit::Watched;
 use unit::answers::Accessed;
 ghost use mathlib.Core.Path.{_≡_};
 ghost use lib.ListN.{length};
-ghost use Rattle.image.specs.Chip.{chip};
-ghost use Rattle.image.specs.Image.{saved};
+ghost use Rattle.saved.specs.Chip.{chip};
+ghost use Rattle.saved.specs.Image.{saved};
 ghost use Rattle.calls.specs.Calls.{pairWith, accessDone, accessReply, accessRefused, accessCall, snoopDone, snoopReply, snoopCall, readCall, writeDone, writeReply, writeCall, unitDone, resetCall, restoreCall, saveCall};
 
 // An access: 0 or a refusal's number, the registers, and the answer.
@@ -171,7 +171,7 @@ pub fn read_register(u: Registers, pair: FaultPair, offset: u32) -> ReadReply
     if number != 0 {
         return ReadReply { number, word: 0 };
     }
-    let word = commands::registers::read(u, pair, offset);
+    let word = registers::read(u, pair, offset);
     ReadReply { number: 0, word }
 }
 

@@ -10,7 +10,7 @@ use Rattle.flush.specs.declared.Range.{Range}
 use Rattle.flush.specs.declared.Range.the-variants.{Line, Page, Segment, All}
 use Rattle.flush.specs.Flush.{Sweep, sweepOf}
 use Rattle.commands.specs.declared.Command.the-variants.{Flush}
-use Rattle.commands.specs.Registers.{withScr, withSsr, withSar, setRegisterOf, setFaultOf, setPortOf}
+use Rattle.registers.specs.Registers.{withScr, withSsr, withSar, setRegisterOf, setFaultOf, setPortOf}
 use Rattle.commands.specs.Commands.{commandOf, rangeOf, flushedOf, flushOf, runOf}
 use Rattle.unit.specs.Unit.{Kept, kept, writeOf}
 use Rattle.flush_laws.specs.Sweep.{flushEach}

@@ -12,10 +12,10 @@ use Rattle.flush.specs.declared.Range.the-variants.{Line, Page, Segment, All}
 use Rattle.flush.specs.Flush.{Sweep, sweepOf}
 use Rattle.patc.specs.declared.Range.the-variants.{Page as EntriesOfPage, Segment as EntriesOfSegment, All as AllEntries}
 use Rattle.patc.specs.Patc.{clearedOf}
-use Rattle.commands.specs.declared.registers.Ran.{Ran}
+use Rattle.registers.specs.declared.Ran.{Ran}
 use Rattle.commands.specs.declared.Command.{Command}
 use Rattle.commands.specs.declared.Command.the-variants.{Nothing, Flush, Probe, Clear}
-use Rattle.commands.specs.Registers.{withStatus}
+use Rattle.registers.specs.Registers.{withStatus}
 use Rattle.commands.specs.Probe.{ceOf, ranOf, probeOf}
 
 -- the low two bits say line, page, segment, all

@@ -11,8 +11,8 @@ use Rattle.lookup.specs.declared.Place.{Place}
 use Rattle.lookup.specs.declared.Place.the-variants.{Unmapped, Block, Page, Nowhere}
 use Rattle.pages.specs.Pages.{segmentAt, pageAt, combinedOf}
 use Rattle.lookup.specs.Lookup.{placeOf}
-use Rattle.commands.specs.declared.registers.Ran.{Ran}
-use Rattle.commands.specs.Registers.{areaOf, withStatus}
+use Rattle.registers.specs.declared.Ran.{Ran}
+use Rattle.registers.specs.Registers.{areaOf, withStatus}
 
 -- CE kept
 abbrev pub ceOf : ℕ → ℕ

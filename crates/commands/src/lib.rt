@@ -1,6 +1,5 @@
 // The commands that a write to SCR runs.
 pub mod probe;
-pub mod registers;
 
 use flush::Kind;
 use registers::Ran;
@@ -75,9 +74,9 @@ fn flushed(u: Registers, ok: bool, failing: u32) -> Registers
 {
     let ce = crate::probe::kept(u.ssr);
     if ok {
-        return crate::registers::with_status(u, ce, u.sar);
+        return registers::with_status(u, ce, u.sar);
     }
-    crate::registers::with_status(u, ce + 16384, failing)
+    registers::with_status(u, ce + 16384, failing)
 }
 
 fn flush(

@@ -1,7 +1,7 @@
 // The probe: translation without the control and protection tests, writing no descriptor and loading no entry.
-use crate::registers::Ran;
 use lookup::Place;
 use pages::Translation;
+use registers::Ran;
 use state::Registers;
 ghost use mathlib.Core.Path.{_≡_};
 ghost use Prim.Native.Nat.{_≤_};
@@ -34,7 +34,7 @@ fn status(ssr: u32, t: Translation, bh: bool) -> u32
 fn found(u: Registers, t: Translation, bh: bool, words: u32) -> Ran
     ensures { λ r. ⌜ r ≡ foundOf u t bh words ⌝ }
 {
-    let registers = crate::registers::with_status(u, status(u.ssr, t, bh), t.address);
+    let registers = registers::with_status(u, status(u.ssr, t, bh), t.address);
     Ran { registers, words }
 }
 
@@ -42,7 +42,7 @@ fn found(u: Registers, t: Translation, bh: bool, words: u32) -> Ran
 fn missing(u: Registers, at: u32, words: u32) -> Ran
     ensures { λ r. ⌜ r ≡ missingOf u at words ⌝ }
 {
-    let registers = crate::registers::with_status(u, kept(u.ssr), at);
+    let registers = registers::with_status(u, kept(u.ssr), at);
     Ran { registers, words }
 }
 
@@ -50,7 +50,7 @@ fn missing(u: Registers, at: u32, words: u32) -> Ran
 fn failed(u: Registers, at: u32, words: u32) -> Ran
     ensures { λ r. ⌜ r ≡ failedOf u at words ⌝ }
 {
-    let registers = crate::registers::with_status(u, kept(u.ssr) + 16384, at);
+    let registers = registers::with_status(u, kept(u.ssr) + 16384, at);
     Ran { registers, words }
 }
 
@@ -98,7 +98,7 @@ fn placed(u: Registers, area: u32, place: Place, ram: &[u32], rom: &[u32]) -> Ra
 pub fn probe(u: Registers, supervisor: bool, patc: &[u32; 112], ram: &[u32], rom: &[u32]) -> Ran
     ensures { λ r. ⌜ r ≡ probeOf u supervisor (now (patc .entry)) (now (ram .entry)) (now (rom .entry)) ⌝ }
 {
-    let area = crate::registers::area(u, supervisor);
+    let area = registers::area(u, supervisor);
     let ports = u.ports;
     let place = lookup::find(area, &ports, patc, u.sar, supervisor);
     placed(u, area, place, ram, rom)

@@ -17,7 +17,7 @@ use Rattle.state.specs.Own.{ownScr}
 use Rattle.lookup.specs.declared.Place.the-variants.{Nowhere}
 use Rattle.pages.specs.Pages.{segmentAt, pageAt}
 use Rattle.lookup.specs.Lookup.{placeOf}
-use Rattle.commands.specs.Registers.{areaOf, withScr, withSsr, withSar}
+use Rattle.registers.specs.Registers.{areaOf, withScr, withSsr, withSar}
 use Rattle.commands.specs.Commands.{probingOf, commandOf, runOf}
 use Rattle.unit.specs.Unit.{writeOf}
 use Rattle.commands.specs.Probe.{ceOf, failedOf, pageOf, tablesOf, placedOf, probeOf}

@@ -8,8 +8,8 @@ use state::Access;
 use state::FaultPair;
 use state::Registers;
 ghost use mathlib.Core.Path.{_≡_};
-ghost use Rattle.image.specs.Chip.{chip};
-ghost use Rattle.image.specs.Image.{saved};
+ghost use Rattle.saved.specs.Chip.{chip};
+ghost use Rattle.saved.specs.Image.{saved};
 ghost use Rattle.calls.specs.Calls.{accessDone, accessCall, snoopDone, snoopCall, readCall, writeDone, writeCall, unitDone, resetCall, restoreCall, saveCall};
 
 // One bus access: refuses 1 to 5.

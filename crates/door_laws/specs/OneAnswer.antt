@@ -6,8 +6,8 @@ use mathlib.Core.List.{List}
 use Rattle.state.specs.declared.Access.{Access}
 use Rattle.state.specs.declared.FaultPair.{FaultPair}
 use Rattle.state.specs.declared.Registers.{Registers}
-use Rattle.image.specs.Chip.{Chip}
-use Rattle.image.specs.Image.{Saved}
+use Rattle.saved.specs.Chip.{Chip}
+use Rattle.saved.specs.Image.{Saved}
 use Rattle.calls.specs.declared.ReadReply.{ReadReply}
 use Rattle.calls.specs.Calls.{AccessDone, accessCall, SnoopDone, snoopCall, readCall, WriteDone, writeCall, UnitDone, resetCall, restoreCall, saveCall}
 

@@ -11,9 +11,9 @@ use Rattle.state.specs.declared.Access.{Access}
 use Rattle.flush.specs.declared.snoop.Snooped.the-variants.{Clear}
 use Rattle.unit.specs.Unit.{accessOf, writeOf, snoopOf}
 use Rattle.fields.specs.Fields.{Bytes, Words}
-use Rattle.image.specs.Chip.{Chip, chip}
-use Rattle.image.specs.Verdict.{Loaded, verdictOf}
-use Rattle.image.specs.Laws.{restore-done}
+use Rattle.saved.specs.Chip.{Chip, chip}
+use Rattle.saved.specs.Verdict.{Loaded, verdictOf}
+use Rattle.saved.specs.Laws.{restore-done}
 use Rattle.refusals.specs.Refusals.{accessRefusal, snoopRefusal, writeRefusal, resetRefusal, restoreRefusal, held, past}
 use Rattle.calls.specs.Calls.{AccessDone, accessDone, accessTaken, accessRefused, accessBy, accessCall, SnoopDone, snoopDone, snoopReply, snoopTaken, snoopBy, snoopCall, WriteDone, writeDone, writeReply, writeTaken, writeBy, writeCall, unitBy, freshOf, resetCall, restoreCall}
 use Rattle.reached.specs.Reached.{Reached, reset, restored, accessed, wrote, snooped}

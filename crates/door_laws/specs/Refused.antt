@@ -9,8 +9,8 @@ use Rattle.state.specs.declared.Access.{Access}
 use Rattle.state.specs.declared.FaultPair.{FaultPair}
 use Rattle.state.specs.declared.Registers.{Registers}
 use Rattle.flush.specs.declared.snoop.Snooped.the-variants.{Clear}
-use Rattle.image.specs.Chip.{Chip}
-use Rattle.image.specs.Image.{saved}
+use Rattle.saved.specs.Chip.{Chip}
+use Rattle.saved.specs.Image.{saved}
 use Rattle.refusals.specs.Refusals.{accessRefusal, snoopRefusal, readRefusal, writeRefusal, resetRefusal, restoreRefusal, saveRefusal}
 use Rattle.calls.specs.Calls.{accessDone, accessRefused, accessBy, accessCall, snoopDone, snoopReply, snoopBy, snoopCall, readBy, readCall, writeDone, writeReply, writeBy, writeCall, unitBy, resetCall, restoreCall, saveBy, saveCall}
 

@@ -4,8 +4,8 @@ use mathlib.Core.List.{List, [], _∷_}
 use lib.Dec.{eqb}
 use Rattle.words.specs.Words.{pick, bitOf}
 use Rattle.state.specs.declared.FaultPair.{FaultPair}
-use Rattle.image.specs.Chip.{Chip, chip}
-use Rattle.image.specs.Image.{Saved}
+use Rattle.saved.specs.Chip.{Chip, chip}
+use Rattle.saved.specs.Image.{Saved}
 use Rattle.calls.specs.declared.ReadReply.{ReadReply}
 use Rattle.calls.specs.Calls.{AccessDone, accessCall, SnoopDone, snoopCall, readCall, WriteDone, writeCall, UnitDone, resetCall, restoreCall, saveCall}
 use Rattle.layout.specs.Layout.{registersOf, unitOf, accessAs, replyOf, snoopedOf}

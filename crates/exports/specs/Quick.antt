@@ -11,7 +11,7 @@ use Rattle.state.specs.declared.Access.{Access}
 use Rattle.state.specs.declared.FaultPair.{FaultPair}
 use Rattle.state.specs.declared.Registers.{Registers}
 use Rattle.lines.specs.Lines.{marked, usedAt, wordAt, mergedAt}
-use Rattle.commands.specs.Registers.{areaOf}
+use Rattle.registers.specs.Registers.{areaOf}
 use Rattle.unit.specs.Answers.{plainOf}
 use Rattle.unit.specs.Unit.{accessOf}
 use Rattle.hits.specs.declared.Hit.{Hit}

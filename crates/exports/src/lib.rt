@@ -7,7 +7,7 @@ use calls::WriteCall;
 use state::FaultPair;
 ghost use mathlib.Core.Path.{_≡_};
 ghost use mathlib.Core.List.{[], _∷_};
-ghost use Rattle.image.specs.Image.{saved};
+ghost use Rattle.saved.specs.Image.{saved};
 ghost use Rattle.layout.specs.Layout.{unitOf, replyOf};
 ghost use Rattle.exports.specs.Exports.{unless, accessOut, accessExport, snoopOut, snoopExport, readOut, readExport, writeOut, writeExport, unitOut, resetExport, restoreExport, saveExport};
 

@@ -21,7 +21,7 @@ use Rattle.patc.specs.Patc.{frameWord, entryOf}
 use Rattle.lookup.specs.Lookup.{placeOf, guardedOf, enteredOf, judgeOf}
 use Rattle.flight.specs.Steps.{Scene, goOf, cacheOf, readOf, writeOf, opening, accessOf as stepsOf}
 use Rattle.driver.specs.Alone.{Memory, memory, alone}
-use Rattle.commands.specs.Registers.{areaOf, withPointer}
+use Rattle.registers.specs.Registers.{areaOf, withPointer}
 use Rattle.unit.specs.Answers.{totalOf, faultOf, plainOf}
 use Rattle.unit.specs.Unit.{Whole, whole, endedBy, mappedOf, accessOf}
 use Rattle.hits.specs.declared.Way.{Way}

@@ -1,41 +1,15 @@
-// The saved image of a unit, edition 1: writing it, testing it, reading it.
-mod read;
-mod tests;
-mod verdict;
+// The saved image of a unit, edition 1: writing it and reading it.
 mod write;
 
 ghost use mathlib.Core.Path.{_≡_};
 ghost use lib.ListN.{length};
-ghost use Rattle.image.specs.Chip.{chip};
-ghost use Rattle.image.specs.Image.{saved, saveOf};
-ghost use Rattle.image.specs.Verdict.{loaded, restoreOf};
+ghost use Rattle.saved.specs.Chip.{chip};
+ghost use Rattle.saved.specs.Image.{saved, saveOf};
+ghost use Rattle.saved.specs.Verdict.{loaded, restoreOf};
+use saved::Layout;
+use saved::Restored;
 use state::FaultPair;
 use state::Registers;
-
-// How the words of a list are laid out, and so which bits of each are its own.
-pub enum Layout {
-    // Whole words: ports and cache data.
-    Whole,
-    // A page word, then its frame word.
-    Entries,
-    // Four tag words, then the set's use code.
-    Sets,
-}
-
-// What is not to stand twice.
-pub enum Kind {
-    // A valid line of a set, by its tag.
-    Line,
-    // A valid PATC entry, by its page and space.
-    Entry,
-}
-
-// What restoring answers: 0 or a refusal's number, and the registers and the fault pair as they then stand.
-pub struct Restored {
-    pub number: u32,
-    pub registers: Registers,
-    pub pair: FaultPair,
-}
 
 // Writes the image of a unit, own bits only: 11 where `out` has no room for it, and then nothing changes.
 pub fn save(
@@ -74,7 +48,7 @@ pub fn restore(
     requires { ⌜ length (now cells) ≡ 4096 ⌝ }
     ensures { λ r. ⌜ loaded r (now (patc .exit)) (now (lines .exit)) (now (cells .exit)) ≡ restoreOf (now (src .entry)) (chip u pair (now (patc .entry)) (now (lines .entry)) (now (cells .entry))) ⌝ }
 {
-    let number = verdict::verdict(src);
+    let number = saved::verdict::verdict(src);
     if number != 0 {
         return Restored {
             number,
@@ -82,8 +56,8 @@ pub fn restore(
             pair,
         };
     }
-    let registers = read::registers_at(src);
-    let pair = read::pair_at(src);
+    let registers = saved::read::registers_at(src);
+    let pair = saved::read::pair_at(src);
     fields::get_words(src, 81, patc);
     fields::get_words(src, 532, lines);
     fields::get_words(src, 5655, cells);

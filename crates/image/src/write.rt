@@ -4,27 +4,12 @@ ghost use Prim.Native.Nat.{_+_, _*_, _<_, _≤_};
 ghost use lib.ListN.{length};
 ghost use lib.Seq.{sets};
 ghost use Rattle.fields.specs.Fields.{bytesOf, fieldOf};
-ghost use Rattle.image.specs.Chip.{ownWord, ownWords, ownRegisters, ownPair};
-ghost use Rattle.image.specs.Image.{registerWords};
-use crate::Layout;
+ghost use Rattle.saved.specs.Chip.{ownWords, ownRegisters, ownPair};
+ghost use Rattle.saved.specs.Image.{registerWords};
+use saved::Layout;
 use state::FaultPair;
 use state::Registers;
 use state::own;
-
-// The own bits of word `i` of a list laid out so.
-pub fn own_word(layout: Layout, i: usize, w: u32) -> u32
-    ensures { λ r. ⌜ r ≡ ownWord layout i w ⌝ }
-{
-    match layout {
-        Layout::Whole => w,
-        Layout::Entries => if i % 2 == 0 {
-            own::tag(w)
-        } else {
-            own::frame(w)
-        },
-        Layout::Sets => if i % 5 < 4 { own::tag(w) } else { own::code(w) },
-    }
-}
 
 // Stores the own bits of each word of `src`, from `at` on.
 fn content(layout: Layout, src: &[u32], out: &mut [u8], at: usize)
@@ -33,7 +18,7 @@ fn content(layout: Layout, src: &[u32], out: &mut [u8], at: usize)
 {
     let mut i: usize = 0;
     while i < src.len() {
-        fields::put_word(out, at + i * 4, own_word(layout, i, src[i]));
+        fields::put_word(out, at + i * 4, saved::own_word(layout, i, src[i]));
         i += 1;
     }
 }

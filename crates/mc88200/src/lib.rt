@@ -1,7 +1,7 @@
 // The calls as C functions on plain arrays: include/mc88200.h says what each does.
 use state::FaultPair;
 ghost use mathlib.Core.Path.{_≡_};
-ghost use Rattle.image.specs.Image.{saved};
+ghost use Rattle.saved.specs.Image.{saved};
 ghost use Rattle.exports.specs.Exports.{accessOut, accessExport, snoopOut, snoopExport, readOut, readExport, writeOut, writeExport, unitOut, resetExport, restoreExport, saveExport};
 
 #[no_mangle]

@@ -23,12 +23,12 @@ pub fn entry(patc: &[u32; 112], address: u32, supervisor: bool) -> usize
     ensures { λ r. ⌜ (r ≡ entryOf (now (patc .entry)) address supervisor) × (r ≤ 56) ⌝ }
 {
     let key = pages::tables::page_word(address, supervisor);
-    let mut n: usize = 0;
-    while n < 56 {
-        if state::own::tag(patc[n * 2]) == key {
-            return n;
+    let mut at: usize = 0;
+    while at < 112 {
+        if state::own::tag(patc[at]) == key {
+            return at / 2;
         }
-        n += 1;
+        at += 2;
     }
     56
 }

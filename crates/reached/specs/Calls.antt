@@ -30,7 +30,7 @@ use Rattle.flush.specs.Snoop.{Snoop, yieldOf, retriedOf, hitBy, snoopOf as line
 use Rattle.commands.specs.declared.Command.{Command}
 use Rattle.commands.specs.declared.Command.the-variants.{Nothing, Flush, Probe, Clear as ClearEntries}
 use Rattle.driver.specs.Alone.{memory}
-use Rattle.commands.specs.Registers.{areaOf, withScr}
+use Rattle.registers.specs.Registers.{areaOf, withScr}
 use Rattle.commands.specs.Commands.{Commanded, commandOf, flushOf, runOf}
 use Rattle.unit.specs.Answers.{faultOf, plainOf, failedOf, writtenOf}
 use Rattle.unit.specs.Unit.{Kept, writeOf, Controlled, reachesOf, controlOf, Whole, mappedOf, accessOf, afterSnoop, snoopOf}

@@ -16,9 +16,9 @@ use Rattle.state.specs.Own.{ownCode, tag-fields}
 use Rattle.lines.specs.Lines.{setOf, tagOf, tagAt, codeAt, stateOf, valid, tagWord, marked, tagged, filledOf, usedAt}
 use Rattle.lines.specs.Laws.{length-marked, length-filled, length-used, marked-code, filled-code, filled-same, Hit, Miss, Looked, used-alone, marked-alone, filled-alone, state-own}
 use Rattle.lines.specs.Laws.Looked.{found, missing}
-use Rattle.image.specs.declared.Layout.the-variants.{Sets}
-use Rattle.image.specs.Chip.{ownWords}
-use Rattle.image.specs.Own.{own-at, tag-own, code-own}
+use Rattle.saved.specs.declared.Layout.the-variants.{Sets}
+use Rattle.saved.specs.Chip.{ownWords}
+use Rattle.saved.specs.Own.{own-at, tag-own, code-own}
 use Rattle.reached.specs.Good.{GoodLines, own-put}
 
 -- ---- only own bits

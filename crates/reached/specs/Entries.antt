@@ -19,9 +19,9 @@ use Rattle.pages.specs.Pages.{same, pageWordOf, frameWordOf}
 use Rattle.patc.specs.Patc.{pageWord, entryOf, freeOf, putOf, steppedOf, Loaded, loadOf, named, clearedWord, clearedTo, clearedOf}
 use Rattle.pages.specs.Laws.{word-own, frame-own}
 use Rattle.patc.specs.Laws.{length-put, load-alone, renew-alone, kept-alone}
-use Rattle.image.specs.declared.Layout.the-variants.{Entries}
-use Rattle.image.specs.Chip.{ownWords}
-use Rattle.image.specs.Own.{own-at, page-own, frame-own as frame-place}
+use Rattle.saved.specs.declared.Layout.the-variants.{Entries}
+use Rattle.saved.specs.Chip.{ownWords}
+use Rattle.saved.specs.Own.{own-at, page-own, frame-own as frame-place}
 use Rattle.reached.specs.Good.{GoodEntries, own-put}
 
 put-own : (ps : List ℕ) (n : ℕ) (address : ℕ) (s : Bool) (t : Translation) → ownWords Entries ps ≡ ps

@@ -17,9 +17,9 @@ use Rattle.lines.specs.Laws.{NoDoubles}
 use Rattle.patc.specs.Laws.{NoTwins}
 use Rattle.unit.specs.Fresh.{clearedOf, freshWord, freshLines}
 use Rattle.fields.specs.Fields.{Words}
-use Rattle.image.specs.declared.Layout.the-variants.{Entries, Sets}
-use Rattle.image.specs.Chip.{chip, ownWord}
-use Rattle.image.specs.Own.{own-fixed, tag-own, code-own}
+use Rattle.saved.specs.declared.Layout.the-variants.{Entries, Sets}
+use Rattle.saved.specs.Chip.{chip, ownWord}
+use Rattle.saved.specs.Own.{own-fixed, tag-own, code-own}
 use Rattle.reached.specs.Good.{GoodRegisters, GoodPair, GoodEntries, GoodLines, GoodCells, Good}
 
 zeros : (n i : ℕ) → getD (replicate n 0) i 0 < 2 ^ 32

@@ -16,12 +16,12 @@ use Rattle.lines.specs.Lines.{codeAt}
 use Rattle.lines.specs.Laws.{NoDoubles}
 use Rattle.patc.specs.Laws.{NoTwins}
 use Rattle.fields.specs.Fields.{Words}
-use Rattle.image.specs.declared.Layout.{Layout}
-use Rattle.image.specs.declared.Layout.the-variants.{Entries, Sets}
-use Rattle.image.specs.Chip.{Chip, ownWord, ownWords, ownRegisters, ownPair, ownOf}
-use Rattle.image.specs.Own.{own-set}
-use Rattle.image.specs.WellFormed.{WellFormed, OnePage}
-use Rattle.image.specs.Sound.{OnePlace, well-places, places-well}
+use Rattle.saved.specs.declared.Layout.{Layout}
+use Rattle.saved.specs.declared.Layout.the-variants.{Entries, Sets}
+use Rattle.saved.specs.Chip.{Chip, ownWord, ownWords, ownRegisters, ownPair, ownOf}
+use Rattle.saved.specs.Own.{own-set}
+use Rattle.saved.specs.WellFormed.{WellFormed, OnePage}
+use Rattle.saved.specs.Sound.{OnePlace, well-places, places-well}
 
 pub record GoodRegisters (u : Registers) : Type 0 where
   pub idr : ownIdr (u .idr) ≡ u .idr

@@ -9,12 +9,12 @@ use Rattle.state.specs.Reset.{resetOf, noFault}
 use Rattle.unit.specs.Fresh.{clearedOf, freshLines}
 use Rattle.unit.specs.Unit.{Kept, writeOf, Whole, accessOf, Snooping, snoopOf}
 use Rattle.fields.specs.Fields.{Bytes, Words}
-use Rattle.image.specs.Chip.{Chip, chip}
-use Rattle.image.specs.Image.{imageOf, readOf}
-use Rattle.image.specs.Verdict.{verdictOf, restoreOf, loadedWith}
-use Rattle.image.specs.Laws.{restore-done}
-use Rattle.image.specs.WellFormed.{WellFormed}
-use Rattle.image.specs.Trips.{read-well, written-reads, written-taken, saved-restores}
+use Rattle.saved.specs.Chip.{Chip, chip}
+use Rattle.saved.specs.Image.{imageOf, readOf}
+use Rattle.saved.specs.Verdict.{verdictOf, restoreOf, loadedWith}
+use Rattle.saved.specs.Laws.{restore-done}
+use Rattle.saved.specs.WellFormed.{WellFormed}
+use Rattle.saved.specs.Trips.{read-well, written-reads, written-taken, saved-restores}
 use Rattle.reached.specs.Good.{Good, good-well, well-good}
 use Rattle.reached.specs.Fresh.{fresh-good}
 use Rattle.reached.specs.Calls.{write-good, access-good, snoop-good}

@@ -19,8 +19,8 @@ use Rattle.pages.specs.Pages.{unmappedOf, portOf, blockOf, pagedOf, segmentAt, 
 use Rattle.patc.specs.Patc.{entryOf, frameWord}
 use Rattle.pages.specs.Laws.{flag-bit}
 use Rattle.lookup.specs.Lookup.{placeOf}
-use Rattle.commands.specs.declared.registers.Ran.{Ran}
-use Rattle.commands.specs.Registers.{areaOf, withScr, withSsr, withSar, withSctr, withSapr, withUapr, withPointer, withPort, setFaultOf, setPortOf, setRegisterOf}
+use Rattle.registers.specs.declared.Ran.{Ran}
+use Rattle.registers.specs.Registers.{areaOf, withScr, withSsr, withSar, withSctr, withSapr, withUapr, withPointer, withPort, setFaultOf, setPortOf, setRegisterOf}
 use Rattle.commands.specs.Probe.{ceOf, statusOf, foundOf, missingOf, failedOf, pageOf, tablesOf, placedOf, probeOf}
 use Rattle.commands.specs.Commands.{flushedOf}
 use Rattle.reached.specs.Good.{GoodRegisters, GoodPair}

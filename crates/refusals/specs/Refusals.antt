@@ -8,7 +8,7 @@ use lib.Dec.{eqb, ltb}
 use borrow.Author.Tests.{eqb-true}
 use Rattle.words.specs.Words.{pick}
 use Rattle.memory.specs.Memory.{ramRule, romRule}
-use Rattle.image.specs.Verdict.{verdictOf}
+use Rattle.saved.specs.Verdict.{verdictOf}
 
 -- the tests, each with what is tested after it
 -- 1: RAM length breaks its rule

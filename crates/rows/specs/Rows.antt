@@ -13,7 +13,7 @@ use Rattle.state.specs.Own.{ownIdr}
 use Rattle.state.specs.Reset.{resetOf, noFault}
 use Rattle.lines.specs.Lines.{setOf, cellOf, victimOf}
 use Rattle.pages.specs.Pages.{segmentAt, pageAt, portHits, portOf, blockOf, combinedOf, protectionOf}
-use Rattle.commands.specs.Registers.{readOf as registerOf}
+use Rattle.registers.specs.Registers.{readOf as registerOf}
 use Rattle.unit.specs.Answers.{plainOf, failedOf}
 use Rattle.unit.specs.Unit.{controlOf, accessOf}
 

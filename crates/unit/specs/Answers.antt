@@ -12,8 +12,8 @@ use Rattle.state.specs.Outcome.{pairOf}
 use Rattle.course.specs.declared.Flight.{Flight}
 use Rattle.course.specs.Course.{noTransaction}
 use Rattle.unit.specs.declared.answers.Accessed.{Accessed}
-use Rattle.commands.specs.declared.registers.Stored.{Stored}
-use Rattle.commands.specs.Registers.{withPointer}
+use Rattle.registers.specs.declared.Stored.{Stored}
+use Rattle.registers.specs.Registers.{withPointer}
 
 abbrev pub wordsAt : List Transaction → ℕ → ℕ
 wordsAt list n = getD list n noTransaction .words

@@ -11,7 +11,7 @@ use Rattle.flight.specs.Begin.{beginOf}
 use Rattle.flight.specs.Ops.{System, system, onCached, leftOf}
 use Rattle.flight.specs.Follows.{endOf, follows}
 use Rattle.driver.specs.Alone.{Memory, memory, alone}
-use Rattle.commands.specs.Registers.{areaOf}
+use Rattle.registers.specs.Registers.{areaOf}
 use Rattle.unit.specs.Answers.{flownOf}
 use Rattle.unit.specs.Unit.{whole, endedBy, mappedOf}
 

@@ -14,10 +14,10 @@ use Rattle.flush.specs.declared.snoop.Snooped.{Snooped}
 use Rattle.flush.specs.declared.snoop.Snooped.the-variants.{Clear, Retry, Failed}
 use Rattle.flush.specs.Snoop.{Snoop, snoopOf as lineSnoop}
 use Rattle.unit.specs.declared.answers.Accessed.{Accessed}
-use Rattle.commands.specs.declared.registers.Stored.{Stored}
+use Rattle.registers.specs.declared.Stored.{Stored}
 use Rattle.unit.specs.declared.Watched.{Watched}
 use Rattle.driver.specs.Alone.{Memory, memory, alone}
-use Rattle.commands.specs.Registers.{areaOf, readOf, storedOf, setOf, withScr, withSsr, withPointer}
+use Rattle.registers.specs.Registers.{areaOf, readOf, storedOf, setOf, withScr, withSsr, withPointer}
 use Rattle.commands.specs.Commands.{Commanded, commandOf, runOf}
 use Rattle.unit.specs.Answers.{totalOf, faultOf, accessed, answerOf, plainOf, failedOf, writtenOf}
 

@@ -1,6 +1,6 @@
 // The answer to an access, with the registers and the fault pair that it leaves.
-use commands::registers::Stored;
 use course::Flight;
+use registers::Stored;
 use state::Answer;
 use state::Fault;
 use state::FaultPair;
@@ -96,7 +96,7 @@ pub fn flown(u: Registers, pair: FaultPair, f: Flight) -> Accessed
         count: c.count,
         words: total(list),
     };
-    let registers = commands::registers::with_pointer(u, c.pointer);
+    let registers = registers::with_pointer(u, c.pointer);
     Accessed {
         registers,
         pair: fault(pair, outcome),

@@ -3,8 +3,8 @@ pub mod answers;
 pub mod fresh;
 
 use answers::Accessed;
-use commands::registers::Stored;
 use flush::snoop::Snooped;
+use registers::Stored;
 use state::Access;
 use state::FaultPair;
 use state::Outcome;
@@ -29,12 +29,12 @@ pub fn write_register(
     ensures { λ r. ⌜ kept r (now (patc .exit)) (now (lines .exit)) (now (ram .exit)) ≡ writeOf u pair (now (patc .entry)) (now (lines .entry)) (now (cells .entry)) (now (ram .entry)) (now (rom .entry)) offset value ⌝ }
 {
     if offset == 4 {
-        let v = commands::registers::with_scr(u, state::own::scr(value));
+        let v = registers::with_scr(u, state::own::scr(value));
         let r = commands::run(v, patc, lines, cells, ram, rom);
         let after = r.registers;
-        return commands::registers::store(after, pair, r.words);
+        return registers::store(after, pair, r.words);
     }
-    commands::registers::set(u, pair, offset, value)
+    registers::set(u, pair, offset, value)
 }
 
 // Does a control access reach this unit's registers?
@@ -64,12 +64,7 @@ fn control(
             let s = write_register(u, pair, patc, lines, cells, ram, rom, offset, access.word);
             return answers::written(s);
         }
-        return answers::plain(
-            u,
-            pair,
-            Outcome::Word(commands::registers::read(u, pair, offset)),
-            0,
-        );
+        return answers::plain(u, pair, Outcome::Word(registers::read(u, pair, offset)), 0);
     }
     answers::failed(u, access.address)
 }
@@ -89,7 +84,7 @@ fn mapped(
     ensures { λ r. ⌜ whole r (now (patc .exit)) (now (lines .exit)) (now (cells .exit)) (now (ram .exit)) ≡ mappedOf u pair (now (patc .entry)) (now (lines .entry)) (now (cells .entry)) (now (ram .entry)) (now (rom .entry)) access ⌝ }
 {
     let ports = u.ports;
-    let area = commands::registers::area(u, access.supervisor);
+    let area = registers::area(u, access.supervisor);
     let f = flight::begin(access, area, &ports, u.pointer, patc, lines, cells);
     let g = driver::run(f, patc, lines, cells, ram, rom);
     answers::flown(u, pair, g)
@@ -130,7 +125,7 @@ fn after_snoop(u: Registers, answer: Snooped) -> Registers
     match answer {
         Snooped::Clear => u,
         Snooped::Retry => u,
-        Snooped::Failed => commands::registers::with_ssr(u, state::own::ssr(u.ssr) % 32768 + 32768),
+        Snooped::Failed => registers::with_ssr(u, state::own::ssr(u.ssr) % 32768 + 32768),
     }
 }
 

@@ -2,7 +2,7 @@ use borrow.Author.Needs.{needs}
 use Rattle.calls.proofs.restore.Statement.{statement}
 use Rattle.calls.specs.Calls.{unitBy, UnitDone}
 use Rattle.refusals.specs.Refusals.{restoreRefusal}
-use Rattle.image.specs.Verdict.{restoreOf, Loaded}
+use Rattle.saved.specs.Verdict.{restoreOf, Loaded}
 use mathlib.Core.Path.{ap}
 use borrow.Author.Tests.{eq-eqb, ne-eqb}
 use Rattle.calls.proofs.restore.Tie as tie

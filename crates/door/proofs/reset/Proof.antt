@@ -16,7 +16,7 @@ use Rattle.calls.proofs.UnitCall.Laws as UnitCall′
 use Rattle.calls.proofs.UnitReply as UnitReply
 use Rattle.calls.proofs.UnitReply.Laws as UnitReply′
 use Rattle.calls.specs.Calls.{unitDone, resetCall, pairWith}
-use Rattle.image.specs.Chip.{chip}
+use Rattle.saved.specs.Chip.{chip}
 use Rattle.calls.proofs.reset as core
 use Rattle.calls.proofs.reset.Symbol as core-def
 use Rattle.calls.proofs.reset.Symbol.{name as #core}

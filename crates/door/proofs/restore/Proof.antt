@@ -16,7 +16,7 @@ use Rattle.calls.proofs.UnitCall.Laws as UnitCall′
 use Rattle.calls.proofs.UnitReply as UnitReply
 use Rattle.calls.proofs.UnitReply.Laws as UnitReply′
 use Rattle.calls.specs.Calls.{unitDone, restoreCall, pairWith}
-use Rattle.image.specs.Chip.{chip}
+use Rattle.saved.specs.Chip.{chip}
 use Rattle.calls.proofs.restore as core
 use Rattle.calls.proofs.restore.Symbol as core-def
 use Rattle.calls.proofs.restore.Symbol.{name as #core}

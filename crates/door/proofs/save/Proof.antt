@@ -14,8 +14,8 @@ use Rattle.calls.specs.declared.SaveReply.{SaveReply as SaveReplyR}
 use Rattle.calls.proofs.SaveReply as SaveReply
 use Rattle.calls.proofs.SaveReply.Laws as SaveReply′
 use Rattle.calls.specs.Calls.{saveCall}
-use Rattle.image.specs.Image.{saved}
-use Rattle.image.specs.Chip.{chip}
+use Rattle.saved.specs.Image.{saved}
+use Rattle.saved.specs.Chip.{chip}
 use Rattle.calls.proofs.save as core
 use Rattle.calls.proofs.save.Symbol as core-def
 use Rattle.calls.proofs.save.Symbol.{name as #core}

@@ -4,8 +4,8 @@ use native.Mathlib.Omega.{arith}
 use borrow.Author.Needs.{needs}
 use denote.Ref.{now}
 use lib.ListN.{length}
-use Rattle.image.specs.Chip.{chip}
-use Rattle.image.specs.Laws.{taken-passes, restore-refused, restore-done}
+use Rattle.saved.specs.Chip.{chip}
+use Rattle.saved.specs.Laws.{taken-passes, restore-refused, restore-done}
 use Rattle.image.proofs.restore.Statement.{statement}
 use Rattle.image.proofs.restore.Tie as tie
 

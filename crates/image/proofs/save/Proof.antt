@@ -4,8 +4,8 @@ use native.Mathlib.Omega.{arith}
 use borrow.Author.Needs.{needs}
 use denote.Ref.{now}
 use lib.ListN.{length}
-use Rattle.image.specs.Chip.{chip}
-use Rattle.image.specs.Laws.{save-refused, save-done}
+use Rattle.saved.specs.Chip.{chip}
+use Rattle.saved.specs.Laws.{save-refused, save-done}
 use Rattle.image.proofs.save.Statement.{statement}
 use Rattle.image.proofs.save.Tie as tie
 

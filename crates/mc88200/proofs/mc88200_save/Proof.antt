@@ -11,7 +11,7 @@ use Rattle.exports.specs.declared.Numbered.{Numbered as NumberedR}
 use Rattle.exports.proofs.Numbered as Numbered
 use Rattle.exports.proofs.Numbered.Laws as Numbered′
 use Rattle.exports.specs.Exports.{saveExport}
-use Rattle.image.specs.Image.{saved}
+use Rattle.saved.specs.Image.{saved}
 use Rattle.exports.proofs.save as core
 use Rattle.exports.proofs.save.Symbol as core-def
 use Rattle.exports.proofs.save.Symbol.{name as #core}

@@ -6,8 +6,8 @@ use borrow.Author.Needs.{needs}
 use lib.ListN.{length, drop}
 use lib.Seq.{sets}
 use Rattle.fields.specs.Fields.{bytesOf}
-use Rattle.image.specs.Chip.{ownFrom, ownWords}
-use Rattle.image.specs.Laws.{put-none, put-one, put-all}
+use Rattle.saved.specs.Chip.{ownFrom, ownWords}
+use Rattle.saved.specs.Laws.{put-none, put-one, put-all}
 use Rattle.image.proofs.write.content.Statement.{statement}
 use Rattle.image.proofs.write.content.Tie as tie
 

@@ -3,9 +3,9 @@ use borrow.Author.Needs.{needs}
 use Rattle.image.proofs.write.field.Statement.{statement}
 use denote.Ref.{now}
 use Rattle.fields.specs.Fields.{bytesOf}
-use Rattle.image.specs.Chip.{ownWords}
+use Rattle.saved.specs.Chip.{ownWords}
 use Rattle.fields.specs.Laws.{field-run}
-use Rattle.image.specs.Own.{length-own-bytes}
+use Rattle.saved.specs.Own.{length-own-bytes}
 use Rattle.image.proofs.write.field.Tie as tie
 
 returns : tie.Need-returns

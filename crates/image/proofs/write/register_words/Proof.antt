@@ -1,6 +1,6 @@
 -- `register_words` meets its contract: each register by its own bits.
 use borrow.Author.Needs.{needs}
-use Rattle.image.specs.Chip.{ownRegisters, ownPair}
+use Rattle.saved.specs.Chip.{ownRegisters, ownPair}
 use Rattle.image.proofs.write.register_words.Statement.{statement}
 use Rattle.image.proofs.write.register_words.Tie as tie
 
