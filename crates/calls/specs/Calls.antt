@@ -11,8 +11,8 @@ use Rattle.state.specs.declared.FaultPair.{FaultPair}
 use Rattle.state.specs.declared.Registers.{Registers}
 use Rattle.state.specs.declared.Outcome.the-variants.{Idle}
 use Rattle.state.specs.Reset.{resetOf, noFault}
-use Rattle.flush.specs.declared.snoop.Snooped.{Snooped}
-use Rattle.flush.specs.declared.snoop.Snooped.the-variants.{Clear}
+use Rattle.snoop.specs.declared.Snooped.{Snooped}
+use Rattle.snoop.specs.declared.Snooped.the-variants.{Clear}
 use Rattle.unit.specs.Answers.{plainOf}
 use Rattle.unit.specs.Fresh.{clearedOf, freshLines}
 use Rattle.registers.specs.Registers.{readOf}

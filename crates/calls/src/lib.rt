@@ -1,7 +1,7 @@
 // The calls with the fault pair by value: what a call takes is tested, then the unit answers.
-use flush::snoop::Snooped;
 use registers::Stored;
 use saved::Restored;
+use snoop::Snooped;
 use state::Access;
 use state::Answer;
 use state::FaultPair;

@@ -8,7 +8,7 @@ use lib.Dec.{eqb}
 use borrow.Author.Tests.{eq-eqb, eqb-true}
 use Rattle.words.specs.Words.{pick}
 use Rattle.state.specs.declared.Access.{Access}
-use Rattle.flush.specs.declared.snoop.Snooped.the-variants.{Clear}
+use Rattle.snoop.specs.declared.Snooped.the-variants.{Clear}
 use Rattle.unit.specs.Unit.{accessOf, writeOf, snoopOf}
 use Rattle.fields.specs.Fields.{Bytes, Words}
 use Rattle.saved.specs.Chip.{Chip, chip}

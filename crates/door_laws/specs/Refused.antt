@@ -8,7 +8,7 @@ use lib.ListN.{length}
 use Rattle.state.specs.declared.Access.{Access}
 use Rattle.state.specs.declared.FaultPair.{FaultPair}
 use Rattle.state.specs.declared.Registers.{Registers}
-use Rattle.flush.specs.declared.snoop.Snooped.the-variants.{Clear}
+use Rattle.snoop.specs.declared.Snooped.the-variants.{Clear}
 use Rattle.saved.specs.Chip.{Chip}
 use Rattle.saved.specs.Image.{saved}
 use Rattle.refusals.specs.Refusals.{accessRefusal, snoopRefusal, readRefusal, writeRefusal, resetRefusal, restoreRefusal, saveRefusal}

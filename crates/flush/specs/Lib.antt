@@ -1,4 +1,3 @@
 pub mod Flush
-pub mod Snoop
 pub mod Laws
 pub mod Step

@@ -1,5 +1,4 @@
-// The flush commands and the snoop: what copies lines back or drops them without an access.
-pub mod snoop;
+// The flush commands: lines are copied back, made invalid, or both, by place.
 
 ghost use mathlib.Core.Path.{_≡_};
 ghost use Prim.Native.Nat.{_<_, _≤_};

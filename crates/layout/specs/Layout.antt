@@ -11,8 +11,8 @@ use Rattle.state.specs.declared.Answer.{Answer}
 use Rattle.state.specs.declared.Registers.{Registers}
 use Rattle.state.specs.declared.Transaction.{Transaction}
 use Rattle.state.specs.Outcome.{caseOf, valueOf, placeOf}
-use Rattle.flush.specs.declared.snoop.Snooped.{Snooped}
-use Rattle.flush.specs.declared.snoop.Snooped.the-variants.{Clear, Retry, Failed}
+use Rattle.snoop.specs.declared.Snooped.{Snooped}
+use Rattle.snoop.specs.declared.Snooped.the-variants.{Clear, Retry, Failed}
 use Rattle.layout.specs.declared.Row.{Row}
 use Rattle.course.specs.Course.{noTransaction}
 

@@ -1,5 +1,5 @@
 // How a unit, an access and its answer are laid out in plain arrays.
-use flush::snoop::Snooped;
+use snoop::Snooped;
 use state::Access;
 use state::Answer;
 use state::Registers;

@@ -23,10 +23,10 @@ use Rattle.flight.specs.Steps.{opening}
 use Rattle.flush.specs.declared.Flushed.{Flushed}
 use Rattle.flush.specs.declared.Kind.{Kind}
 use Rattle.flush.specs.declared.Range.{Range}
-use Rattle.flush.specs.declared.snoop.Snooped.{Snooped}
-use Rattle.flush.specs.declared.snoop.Snooped.the-variants.{Clear, Retry, Failed}
+use Rattle.snoop.specs.declared.Snooped.{Snooped}
+use Rattle.snoop.specs.declared.Snooped.the-variants.{Clear, Retry, Failed}
 use Rattle.flush.specs.Flush.{Sweep, swept, coversOf, copiesOf, dropsOf, afterOf, copiedOf, lineOf, sweepOf}
-use Rattle.flush.specs.Snoop.{Snoop, yieldOf, retriedOf, hitBy, snoopOf as lineSnoop}
+use Rattle.snoop.specs.Snoop.{Snoop, yieldOf, retriedOf, hitBy, snoopOf as lineSnoop}
 use Rattle.commands.specs.declared.Command.{Command}
 use Rattle.commands.specs.declared.Command.the-variants.{Nothing, Flush, Probe, Clear as ClearEntries}
 use Rattle.driver.specs.Alone.{memory}

@@ -10,9 +10,9 @@ use Rattle.state.specs.declared.FaultPair.{FaultPair}
 use Rattle.state.specs.declared.Outcome.the-variants.{Idle, Word}
 use Rattle.state.specs.Own.{ownScr, ownSsr}
 use Rattle.flight.specs.Steps.{Scene, Ended, accessOf as stepsOf, opening}
-use Rattle.flush.specs.declared.snoop.Snooped.{Snooped}
-use Rattle.flush.specs.declared.snoop.Snooped.the-variants.{Clear, Retry, Failed}
-use Rattle.flush.specs.Snoop.{Snoop, snoopOf as lineSnoop}
+use Rattle.snoop.specs.declared.Snooped.{Snooped}
+use Rattle.snoop.specs.declared.Snooped.the-variants.{Clear, Retry, Failed}
+use Rattle.snoop.specs.Snoop.{Snoop, snoopOf as lineSnoop}
 use Rattle.unit.specs.declared.answers.Accessed.{Accessed}
 use Rattle.registers.specs.declared.Stored.{Stored}
 use Rattle.unit.specs.declared.Watched.{Watched}

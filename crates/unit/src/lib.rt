@@ -3,8 +3,8 @@ pub mod answers;
 pub mod fresh;
 
 use answers::Accessed;
-use flush::snoop::Snooped;
 use registers::Stored;
+use snoop::Snooped;
 use state::Access;
 use state::FaultPair;
 use state::Outcome;
@@ -142,7 +142,7 @@ pub fn snoop(
     ensures { λ r. ⌜ watched r (now (lines .exit)) (now (ram .exit)) ≡ snoopOf u (now (lines .entry)) (now (cells .entry)) (now (ram .entry)) address g im ⌝ }
 {
     let enabled = words::bit(u.sctr, 14) & g;
-    let answer = flush::snoop::snoop(enabled, im, address, lines, cells, ram);
+    let answer = snoop::snoop(enabled, im, address, lines, cells, ram);
     let registers = after_snoop(u, answer);
     Watched { registers, answer }
 }

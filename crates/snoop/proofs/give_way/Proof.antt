@@ -1,7 +1,7 @@
 use borrow.Author.Needs.{needs}
-use Rattle.flush.proofs.snoop.give_way.Statement.{statement}
-use Rattle.flush.specs.Snoop.{hitBy}
-use Rattle.flush.proofs.snoop.give_way.Tie as tie
+use Rattle.snoop.proofs.give_way.Statement.{statement}
+use Rattle.snoop.specs.Snoop.{hitBy}
+use Rattle.snoop.proofs.give_way.Tie as tie
 
 returns : tie.Need-returns
 unfolding hitBy

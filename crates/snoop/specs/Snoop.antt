@@ -6,8 +6,8 @@ use lib.Dec.{ltb}
 use Rattle.words.specs.Words.{pick}
 use Rattle.memory.specs.Memory.{Wrote, writeLineOf}
 use Rattle.lines.specs.Lines.{modified, tagWord, lineAddress, hitOf, marked, lineWords}
-use Rattle.flush.specs.declared.snoop.Snooped.{Snooped}
-use Rattle.flush.specs.declared.snoop.Snooped.the-variants.{Clear, Retry, Failed}
+use Rattle.snoop.specs.declared.Snooped.{Snooped}
+use Rattle.snoop.specs.declared.Snooped.the-variants.{Clear, Retry, Failed}
 
 -- the numbers of its answers: clear, retry, failed
 abbrev pub answerOf : Snooped → ℕ

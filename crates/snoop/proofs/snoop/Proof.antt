@@ -1,8 +1,8 @@
 use borrow.Author.Needs.{needs}
-use Rattle.flush.proofs.snoop.snoop.Statement.{statement}
-use Rattle.flush.specs.Snoop.{snoopOf}
+use Rattle.snoop.proofs.snoop.Statement.{statement}
+use Rattle.snoop.specs.Snoop.{snoopOf}
 use borrow.Author.Tests.{lt-ltb, le-ltb}
-use Rattle.flush.proofs.snoop.snoop.Tie as tie
+use Rattle.snoop.proofs.snoop.Tie as tie
 
 returns : tie.Need-returns
 unfolding snoopOf

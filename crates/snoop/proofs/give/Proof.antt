@@ -1,7 +1,7 @@
 use borrow.Author.Needs.{needs}
-use Rattle.flush.proofs.snoop.give.Statement.{statement}
-use Rattle.flush.specs.Snoop.{retriedOf}
-use Rattle.flush.proofs.snoop.give.Tie as tie
+use Rattle.snoop.proofs.give.Statement.{statement}
+use Rattle.snoop.specs.Snoop.{retriedOf}
+use Rattle.snoop.proofs.give.Tie as tie
 
 returns : tie.Need-returns
 unfolding retriedOf

@@ -2,7 +2,7 @@
 ghost use mathlib.Core.Path.{_≡_};
 ghost use Prim.Native.Nat.{_<_};
 ghost use lib.ListN.{length};
-ghost use Rattle.flush.specs.Snoop.{snooped, yieldOf, retriedOf, hitBy, snoopOf};
+ghost use Rattle.snoop.specs.Snoop.{snooped, yieldOf, retriedOf, hitBy, snoopOf};
 
 // What a snooping unit answers.
 pub enum Snooped {
