@@ -33,13 +33,16 @@ unfoldable pub quickOf : List ℕ → List ℕ → List ℕ → ℕ → ℕ → 
 quickOf unit ps ls address kind enables =
     pick (not (plainAccess address kind enables)) noHit (lookOf ls (areaAt unit (bitOf kind 7)) (registersOf unit .ports) ps address (bitOf kind 7) (bitOf kind 6))
 
--- the reply to a word that was read, with no transaction
-unfoldable pub wordReply : ℕ → List ℕ
-wordReply w = 1 ∷ w ∷ 0 ∷ 0 ∷ 0 ∷ 0 ∷ 0 ∷ 0 ∷ 0 ∷ 0 ∷ 0 ∷ 0 ∷ 0 ∷ 0 ∷ 0 ∷ 0 ∷ 0 ∷ 0 ∷ 0 ∷ 0 ∷ 0 ∷ 0 ∷ 0 ∷ 0 ∷ []
+-- a reply without a transaction: its case and its value
+unfoldable pub plainReply : ℕ → ℕ → List ℕ
+plainReply case value = case ∷ value ∷ 0 ∷ 0 ∷ 0 ∷ 0 ∷ 0 ∷ 0 ∷ 0 ∷ 0 ∷ 0 ∷ 0 ∷ 0 ∷ 0 ∷ 0 ∷ 0 ∷ 0 ∷ 0 ∷ 0 ∷ 0 ∷ 0 ∷ 0 ∷ 0 ∷ 0 ∷ []
 
--- .. to one that was written
-unfoldable pub writtenReply : List ℕ
-writtenReply = 2 ∷ 0 ∷ 0 ∷ 0 ∷ 0 ∷ 0 ∷ 0 ∷ 0 ∷ 0 ∷ 0 ∷ 0 ∷ 0 ∷ 0 ∷ 0 ∷ 0 ∷ 0 ∷ 0 ∷ 0 ∷ 0 ∷ 0 ∷ 0 ∷ 0 ∷ 0 ∷ 0 ∷ []
+-- to a word that was read, and to one that was written
+abbrev pub wordReply : ℕ → List ℕ
+wordReply w = plainReply 1 w
+
+abbrev pub writtenReply : List ℕ
+writtenReply = plainReply 2 0
 
 -- what a hit leaves: the line read or written, and used; the reply
 abbrev pub linesAfter : Bool → List ℕ → Hit → List ℕ
@@ -56,12 +59,12 @@ replyAfter write cs h enables = pick write writtenReply (wordReply (keepOf enabl
 module _ (u : Registers) (p : FaultPair) (ps ls cs ram rom : List ℕ) (a : Access) where
   pub answered : (unit reply : List ℕ) (h : Hit)
       → accessBy unit reply (accessTaken (readAt u p ps ls cs ram rom a h)) ≡ accessOut 0 (unitOf u) p ps (usedAt ls (h .place)) cs ram (wordReply (keepOf (a .enables) (wordAt cs (h .place) (h .address))))
-  unfolding accessBy plainOf replyOf bitsOf wordReply
+  unfolding accessBy plainOf replyOf bitsOf plainReply
   answered unit reply h = refl
 
   pub stored : (unit reply : List ℕ) (h : Hit)
       → accessBy unit reply (accessTaken (writtenAt u p ps ls cs ram rom a h)) ≡ accessOut 0 (unitOf u) p ps (usedAt (marked ls (h .place) 1) (h .place)) (mergedAt cs (h .place) (h .address) (a .enables) (a .word)) ram writtenReply
-  unfolding accessBy plainOf replyOf bitsOf writtenReply
+  unfolding accessBy plainOf replyOf bitsOf plainReply
   stored unit reply h = refl
 
 three : (w x y : Bool) → (not w && not x && not y) ≡ true → (w ≡ false) × (x ≡ false) × (y ≡ false)

@@ -3,7 +3,7 @@ use hits::Hit;
 ghost use mathlib.Core.Path.{_≡_};
 ghost use Prim.Native.Nat.{_<_};
 ghost use lib.ListN.{length};
-ghost use Rattle.exports.specs.Quick.{plainAccess, areaAt, quickOf, wordReply, writtenReply, linesAfter, cellsAfter, replyAfter};
+ghost use Rattle.exports.specs.Quick.{plainAccess, areaAt, quickOf, plainReply, linesAfter, cellsAfter, replyAfter};
 
 // An access that is neither idle nor locked, outside control space.
 fn plain(address: u32, kind: u32, enables: u32) -> bool
@@ -53,45 +53,13 @@ pub fn look(
     )
 }
 
-// The reply to a word that was written, with no transaction.
-fn put_written(reply: &mut [u32; 24])
-    ensures { λ _. ⌜ now (reply .exit) ≡ writtenReply ⌝ }
+// A reply without a transaction: 1 and the word that was read, or 2 for one that was written.
+fn put_reply(reply: &mut [u32; 24], case: u32, value: u32)
+    ensures { λ _. ⌜ now (reply .exit) ≡ plainReply case value ⌝ }
 {
     *reply = [
-        2,
-        0,
-        0,
-        0,
-        0,
-        0,
-        0,
-        0,
-        0,
-        0,
-        0,
-        0,
-        0,
-        0,
-        0,
-        0,
-        0,
-        0,
-        0,
-        0,
-        0,
-        0,
-        0,
-        0,
-    ];
-}
-
-// The reply to a word that was read, with no transaction.
-fn put_word(reply: &mut [u32; 24], word: u32)
-    ensures { λ _. ⌜ now (reply .exit) ≡ wordReply word ⌝ }
-{
-    *reply = [
-        1,
-        word,
+        case,
+        value,
         0,
         0,
         0,
@@ -132,9 +100,9 @@ pub(crate) fn answer(
 {
     if write {
         hits::write(lines, cells, hit, enables, word);
-        put_written(reply);
+        put_reply(reply, 2, 0);
     } else {
         let read = hits::read(lines, cells, hit, enables);
-        put_word(reply, read);
+        put_reply(reply, 1, read);
     }
 }
