@@ -10,24 +10,16 @@ use Rattle.state.specs.declared.Answer.{Answer}
 use Rattle.state.specs.declared.FaultPair.{FaultPair}
 use Rattle.state.specs.declared.Registers.{Registers}
 use Rattle.state.specs.declared.Outcome.the-variants.{Idle}
-use Rattle.state.specs.Reset.{resetOf, noFault}
 use Rattle.snoop.specs.declared.Snooped.{Snooped}
 use Rattle.snoop.specs.declared.Snooped.the-variants.{Clear}
-use Rattle.unit.specs.Answers.{plainOf}
-use Rattle.unit.specs.Fresh.{clearedOf, freshLines}
+use Rattle.answers.specs.Answers.{plainOf}
 use Rattle.registers.specs.Registers.{readOf}
 use Rattle.unit.specs.Unit.{Kept, Whole, Snooping, writeOf, accessOf, snoopOf}
-use Rattle.saved.specs.Chip.{Chip, chip}
-use Rattle.saved.specs.Image.{Saved, saved, saveOf, readOf as unitAt}
 use Rattle.calls.specs.declared.AccessReply.{AccessReply}
 use Rattle.calls.specs.declared.SnoopReply.{SnoopReply}
 use Rattle.calls.specs.declared.ReadReply.{ReadReply}
 use Rattle.calls.specs.declared.WriteReply.{WriteReply}
-use Rattle.calls.specs.declared.UnitReply.{UnitReply}
-use Rattle.refusals.specs.Refusals.{accessRefusal, snoopRefusal, readRefusal, writeRefusal, resetRefusal, saveRefusal, restoreRefusal}
-
-abbrev pub pairWith : ℕ → ℕ → FaultPair
-pairWith status address = record { status = status; address = address }
+use Rattle.refusals.specs.Refusals.{accessRefusal, snoopRefusal, readRefusal, writeRefusal}
 
 -- ---- an access
 
@@ -119,31 +111,3 @@ writeBy n u p ps ls cs ram rom offset value =
 abbrev pub writeCall : Registers → FaultPair → List ℕ → List ℕ → List ℕ → List ℕ → List ℕ → ℕ → ℕ → WriteDone
 writeCall u p ps ls cs ram rom offset value =
     writeBy (writeRefusal (length ram) (length rom) (length cs) offset) u p ps ls cs ram rom offset value
-
--- ---- reset, and the saved image
-
--- a number, and the whole unit as it then stands
-pub record UnitDone : Type 0 where
-  pub number : ℕ
-  pub unit : Chip
-
-abbrev pub unitDone : UnitReply → FaultPair → List ℕ → List ℕ → List ℕ → UnitDone
-unitDone r p ps ls cs = record { number = r .number; unit = chip (r .registers) p ps ls cs }
-
-unfoldable pub unitBy : ℕ → Chip → Chip → UnitDone
-unitBy n after c = record { number = n; unit = pick (eqb n 0) after c }
-
-unfoldable pub freshOf : Chip → ℕ → Chip
-freshOf c number = chip (resetOf number) noFault (clearedOf (c .patc)) (freshLines (c .lines)) (clearedOf (c .cells))
-
-abbrev pub resetCall : Chip → ℕ → UnitDone
-resetCall c number = unitBy (resetRefusal (length (c .cells))) (freshOf c number) c
-
-abbrev pub restoreCall : Chip → List ℕ → UnitDone
-restoreCall c image = unitBy (restoreRefusal (length (c .cells)) image) (unitAt image) c
-
-unfoldable pub saveBy : ℕ → Chip → List ℕ → Saved
-saveBy n c out = pick (eqb n 0) (saveOf c out) (saved n out)
-
-abbrev pub saveCall : Chip → List ℕ → Saved
-saveCall c out = saveBy (saveRefusal (length (c .cells)) (length out)) c out

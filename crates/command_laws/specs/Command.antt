@@ -4,11 +4,11 @@ use mathlib.Core.Path.{_≡_, refl, ap, _∙_}
 use mathlib.Core.List.{List, [], _∷_}
 use Rattle.state.specs.declared.Registers.{Registers}
 use Rattle.state.specs.Own.{ownScr}
-use Rattle.flush.specs.declared.Kind.{Kind}
-use Rattle.flush.specs.declared.Kind.the-variants.{Invalidate, CopyBack, Both}
-use Rattle.flush.specs.declared.Range.{Range}
-use Rattle.flush.specs.declared.Range.the-variants.{Line, Page, Segment, All}
-use Rattle.flush.specs.Flush.{Sweep, sweepOf}
+use Rattle.sweep.specs.declared.Kind.{Kind}
+use Rattle.sweep.specs.declared.Kind.the-variants.{Invalidate, CopyBack, Both}
+use Rattle.sweep.specs.declared.Range.{Range}
+use Rattle.sweep.specs.declared.Range.the-variants.{Line, Page, Segment, All}
+use Rattle.sweep.specs.Sweep.{Sweep, sweepOf}
 use Rattle.commands.specs.declared.Command.the-variants.{Flush}
 use Rattle.registers.specs.Registers.{withScr, withSsr, withSar, setRegisterOf, setFaultOf, setPortOf}
 use Rattle.commands.specs.Commands.{commandOf, rangeOf, flushedOf, flushOf, runOf}

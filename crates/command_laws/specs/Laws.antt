@@ -7,11 +7,11 @@ use mathlib.Core.List.{List, Perm}
 use lib.ListN.{length}
 use Rattle.lines.specs.Lines.{modified, tagWord, wordAt}
 use Rattle.lines.specs.Laws.{Hit, NoDoubles}
-use Rattle.flush.specs.declared.Kind.{Kind}
-use Rattle.flush.specs.declared.Kind.the-variants.{Invalidate, CopyBack, Both}
-use Rattle.flush.specs.declared.Range.{Range}
-use Rattle.flush.specs.declared.Range.the-variants.{Line, Page, Segment, All}
-use Rattle.flush.specs.Flush.{coversOf, Sweep}
+use Rattle.sweep.specs.declared.Kind.{Kind}
+use Rattle.sweep.specs.declared.Kind.the-variants.{Invalidate, CopyBack, Both}
+use Rattle.sweep.specs.declared.Range.{Range}
+use Rattle.sweep.specs.declared.Range.the-variants.{Line, Page, Segment, All}
+use Rattle.sweep.specs.Sweep.{coversOf, Sweep}
 use Rattle.unit.specs.Unit.{Kept}
 use Rattle.flush_laws.specs.Sweep.{Fits, flushEach, flushOf}
 use Rattle.flush_laws.specs.Ranges.{linesOf, pagesOf, segmentsOf}

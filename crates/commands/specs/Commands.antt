@@ -5,11 +5,11 @@ use mathlib.Core.List.{List}
 use lib.Dec.{eqb}
 use Rattle.words.specs.Words.{pick, bitsOf}
 use Rattle.state.specs.declared.Registers.{Registers}
-use Rattle.flush.specs.declared.Kind.{Kind}
-use Rattle.flush.specs.declared.Kind.the-variants.{Invalidate, CopyBack, Both}
-use Rattle.flush.specs.declared.Range.{Range}
-use Rattle.flush.specs.declared.Range.the-variants.{Line, Page, Segment, All}
-use Rattle.flush.specs.Flush.{Sweep, sweepOf}
+use Rattle.sweep.specs.declared.Kind.{Kind}
+use Rattle.sweep.specs.declared.Kind.the-variants.{Invalidate, CopyBack, Both}
+use Rattle.sweep.specs.declared.Range.{Range}
+use Rattle.sweep.specs.declared.Range.the-variants.{Line, Page, Segment, All}
+use Rattle.sweep.specs.Sweep.{Sweep, sweepOf}
 use Rattle.patc.specs.declared.Range.the-variants.{Page as EntriesOfPage, Segment as EntriesOfSegment, All as AllEntries}
 use Rattle.patc.specs.Patc.{clearedOf}
 use Rattle.registers.specs.declared.Ran.{Ran}

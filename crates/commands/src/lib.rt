@@ -1,9 +1,9 @@
 // The commands that a write to SCR runs.
 pub mod probe;
 
-use flush::Kind;
 use registers::Ran;
 use state::Registers;
+use sweep::Kind;
 ghost use mathlib.Core.Path.{_≡_};
 ghost use lib.ListN.{length};
 ghost use Rattle.commands.specs.Commands.{rangeOf, probingOf, clearingOf, commandOf, flushedOf, flushRan, flushOf, commanded, runOf};
@@ -11,20 +11,20 @@ ghost use Rattle.commands.specs.Probe.{ranOf};
 
 pub enum Command {
     Nothing,
-    Flush(Kind, flush::Range),
+    Flush(Kind, sweep::Range),
     Probe(bool),
     Clear(bool, patc::Range),
 }
 
 // The low two bits of a flush say line, page, segment, all.
-fn range(low: u32) -> flush::Range
+fn range(low: u32) -> sweep::Range
     ensures { λ r. ⌜ r ≡ rangeOf low ⌝ }
 {
     match low {
-        0 => flush::Range::Line,
-        1 => flush::Range::Page,
-        2 => flush::Range::Segment,
-        _ => flush::Range::All,
+        0 => sweep::Range::Line,
+        1 => sweep::Range::Page,
+        2 => sweep::Range::Segment,
+        _ => sweep::Range::All,
     }
 }
 
@@ -82,7 +82,7 @@ fn flushed(u: Registers, ok: bool, failing: u32) -> Registers
 fn flush(
     u: Registers,
     kind: Kind,
-    range: flush::Range,
+    range: sweep::Range,
     lines: &mut [u32; 1280],
     cells: &[u32],
     ram: &mut [u32],

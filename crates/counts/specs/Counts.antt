@@ -28,7 +28,7 @@ use Rattle.course.specs.Course.{noTransaction}
 use Rattle.flight.specs.Ops.{Got, Shown, Sent, Ops}
 use Rattle.flight.specs.Steps.{Scene, faulted, noted, withLines, moves, storeOf, readOf, fillOf, copybackOf, missAt, writeOf, singleX, singleOf, inhibitedOf, cacheOf, walks, loadedOf, finishOf, pageOf, searchOf, goOf, accessOf, opening}
 use Rattle.driver.specs.Alone.{memory, alone}
-use Rattle.unit.specs.Answers.{wordsAt}
+use Rattle.answers.specs.Answers.{wordsAt}
 use Rattle.registers.specs.Registers.{areaOf}
 use Rattle.unit.specs.Unit.{mappedOf, accessOf as unitAccess}
 use Rattle.counts.specs.Listed.{sumOf, total-sum, Going, more, Counted, ends, went, failed, Moves, Fair}

@@ -15,7 +15,7 @@ use Rattle.state.specs.Outcome.{caseOf}
 use Rattle.course.specs.Course.{noTransaction, slotOf, movedBy}
 use Rattle.flight.specs.Ops.{Ops}
 use Rattle.flight.specs.Steps.{Scene, Ended, ended, faulted, noted}
-use Rattle.unit.specs.Answers.{wordsAt, totalOf}
+use Rattle.answers.specs.Answers.{wordsAt, totalOf}
 
 -- ---- the sum of the words
 

@@ -2,15 +2,16 @@
 use calls::AccessReply;
 use calls::ReadReply;
 use calls::SnoopReply;
-use calls::UnitReply;
 use calls::WriteReply;
+use starts::UnitReply;
 use state::Access;
 use state::FaultPair;
 use state::Registers;
 ghost use mathlib.Core.Path.{_≡_};
 ghost use Rattle.saved.specs.Chip.{chip};
 ghost use Rattle.saved.specs.Image.{saved};
-ghost use Rattle.calls.specs.Calls.{accessDone, accessCall, snoopDone, snoopCall, readCall, writeDone, writeCall, unitDone, resetCall, restoreCall, saveCall};
+ghost use Rattle.calls.specs.Calls.{accessDone, accessCall, snoopDone, snoopCall, readCall, writeDone, writeCall};
+ghost use Rattle.starts.specs.Starts.{unitDone, resetCall, restoreCall, saveCall};
 
 // One bus access: refuses 1 to 5.
 pub fn access(
@@ -26,7 +27,7 @@ pub fn access(
     ensures { λ r. ⌜ accessDone r (now (fault .exit)) (now (patc .exit)) (now (lines .exit)) (now (cells .exit)) (now (ram .exit)) ≡ accessCall u (now (fault .entry)) (now (patc .entry)) (now (lines .entry)) (now (cells .entry)) (now (ram .entry)) (now (rom .entry)) access ⌝ }
 {
     let r = calls::access(u, *fault, patc, lines, cells, ram, rom, access);
-    calls::store(fault, r.pair.status, r.pair.address);
+    lent::store(fault, r.pair.status, r.pair.address);
     r.reply
 }
 
@@ -68,7 +69,7 @@ pub fn write_register(
     ensures { λ r. ⌜ writeDone r (now (fault .exit)) (now (patc .exit)) (now (lines .exit)) (now (ram .exit)) ≡ writeCall u (now (fault .entry)) (now (patc .entry)) (now (lines .entry)) (now (cells .entry)) (now (ram .entry)) (now (rom .entry)) offset value ⌝ }
 {
     let r = calls::write_register(u, *fault, patc, lines, cells, ram, rom, offset, value);
-    calls::store(fault, r.pair.status, r.pair.address);
+    lent::store(fault, r.pair.status, r.pair.address);
     r.reply
 }
 
@@ -83,8 +84,8 @@ pub fn reset(
 ) -> UnitReply
     ensures { λ r. ⌜ unitDone r (now (fault .exit)) (now (patc .exit)) (now (lines .exit)) (now (cells .exit)) ≡ resetCall (chip u (now (fault .entry)) (now (patc .entry)) (now (lines .entry)) (now (cells .entry))) number ⌝ }
 {
-    let r = calls::reset(u, *fault, patc, lines, cells, number);
-    calls::store(fault, r.pair.status, r.pair.address);
+    let r = starts::reset(u, *fault, patc, lines, cells, number);
+    lent::store(fault, r.pair.status, r.pair.address);
     r.reply
 }
 
@@ -99,8 +100,8 @@ pub fn restore(
 ) -> UnitReply
     ensures { λ r. ⌜ unitDone r (now (fault .exit)) (now (patc .exit)) (now (lines .exit)) (now (cells .exit)) ≡ restoreCall (chip u (now (fault .entry)) (now (patc .entry)) (now (lines .entry)) (now (cells .entry))) (now (src .entry)) ⌝ }
 {
-    let r = calls::restore(u, *fault, patc, lines, cells, src);
-    calls::store(fault, r.pair.status, r.pair.address);
+    let r = starts::restore(u, *fault, patc, lines, cells, src);
+    lent::store(fault, r.pair.status, r.pair.address);
     r.reply
 }
 
@@ -115,6 +116,6 @@ pub fn save(
 ) -> u32
     ensures { λ r. ⌜ saved r (now (out .exit)) ≡ saveCall (chip u (now (fault .entry)) (now (patc .entry)) (now (lines .entry)) (now (cells .entry))) (now (out .entry)) ⌝ }
 {
-    let r = calls::save(u, *fault, patc, lines, cells, out);
+    let r = starts::save(u, *fault, patc, lines, cells, out);
     r.number
 }

@@ -9,7 +9,8 @@ use Rattle.state.specs.declared.Registers.{Registers}
 use Rattle.saved.specs.Chip.{Chip}
 use Rattle.saved.specs.Image.{Saved}
 use Rattle.calls.specs.declared.ReadReply.{ReadReply}
-use Rattle.calls.specs.Calls.{AccessDone, accessCall, SnoopDone, snoopCall, readCall, WriteDone, writeCall, UnitDone, resetCall, restoreCall, saveCall}
+use Rattle.calls.specs.Calls.{AccessDone, accessCall, SnoopDone, snoopCall, readCall, WriteDone, writeCall}
+use Rattle.starts.specs.Starts.{UnitDone, resetCall, restoreCall, saveCall}
 
 -- what is said by an equation is said of one thing
 one : {A : Type 0} {x y said : A} → x ≡ said → y ≡ said → x ≡ y

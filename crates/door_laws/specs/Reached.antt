@@ -15,7 +15,8 @@ use Rattle.saved.specs.Chip.{Chip, chip}
 use Rattle.saved.specs.Verdict.{Loaded, verdictOf}
 use Rattle.saved.specs.Laws.{restore-done}
 use Rattle.refusals.specs.Refusals.{accessRefusal, snoopRefusal, writeRefusal, resetRefusal, restoreRefusal, held, past}
-use Rattle.calls.specs.Calls.{AccessDone, accessDone, accessTaken, accessRefused, accessBy, accessCall, SnoopDone, snoopDone, snoopReply, snoopTaken, snoopBy, snoopCall, WriteDone, writeDone, writeReply, writeTaken, writeBy, writeCall, unitBy, freshOf, resetCall, restoreCall}
+use Rattle.calls.specs.Calls.{AccessDone, accessDone, accessTaken, accessRefused, accessBy, accessCall, SnoopDone, snoopDone, snoopReply, snoopTaken, snoopBy, snoopCall, WriteDone, writeDone, writeReply, writeTaken, writeBy, writeCall}
+use Rattle.starts.specs.Starts.{unitBy, freshOf, resetCall, restoreCall}
 use Rattle.reached.specs.Reached.{Reached, reset, restored, accessed, wrote, snooped}
 
 -- the unit that a call leaves

@@ -12,7 +12,8 @@ use Rattle.snoop.specs.declared.Snooped.the-variants.{Clear}
 use Rattle.saved.specs.Chip.{Chip}
 use Rattle.saved.specs.Image.{saved}
 use Rattle.refusals.specs.Refusals.{accessRefusal, snoopRefusal, readRefusal, writeRefusal, resetRefusal, restoreRefusal, saveRefusal}
-use Rattle.calls.specs.Calls.{accessDone, accessRefused, accessBy, accessCall, snoopDone, snoopReply, snoopBy, snoopCall, readBy, readCall, writeDone, writeReply, writeBy, writeCall, unitBy, resetCall, restoreCall, saveBy, saveCall}
+use Rattle.calls.specs.Calls.{accessDone, accessRefused, accessBy, accessCall, snoopDone, snoopReply, snoopBy, snoopCall, readBy, readCall, writeDone, writeReply, writeBy, writeCall}
+use Rattle.starts.specs.Starts.{unitBy, resetCall, restoreCall, saveBy, saveCall}
 
 module _ (u : Registers) (p : FaultPair) (ps ls cs ram rom : List ℕ) where
   module _ (a : Access) where

@@ -1,11 +1,7 @@
 -- The world of a unit that is alone on its memory: RAM and ROM.
 use Prim.Native.Nat.{ℕ}
 use mathlib.Core.List.{List}
-use Rattle.words.specs.Words.{pick}
 use Rattle.memory.specs.Memory.{Wrote, partOf, shownOf, readOf, writeWordOf, writeLineOf}
-use Rattle.course.specs.declared.Course.{Course}
-use Rattle.course.specs.declared.Flight.{Flight}
-use Rattle.cache.specs.Cache.{wordOf}
 use Rattle.flight.specs.Ops.{Ops, Sent}
 
 pub record Memory : Type 0 where
@@ -26,21 +22,3 @@ alone =
       writeWord = λ m t enables word. sentOf m (writeWordOf (m .ram) (t .address) enables word);
       writeLine = λ m t part. sentOf m (writeLineOf (m .ram) (t .address) part);
     }
-
--- a flight with RAM
-pub record FlownTo : Type 0 where
-  pub flight : Flight
-  pub ram : List ℕ
-
-abbrev pub flownTo : Flight → List ℕ → FlownTo
-flownTo f ram = record { flight = f; ram = ram }
-
-abbrev pub sentBy : Course → Wrote → FlownTo
-sentBy c x = flownTo (wordOf c (x .moved) 0) (x .ram)
-
--- the single word, written or read
-unfoldable pub singleBy : Course → List ℕ → List ℕ → FlownTo
-singleBy c ram rom =
-    pick (c .access .write)
-    (sentBy c (writeWordOf ram (c .want .address) (c .access .enables) (c .access .word)))
-    (flownTo (wordOf c (readOf ram rom (c .want .address) .moved) (readOf ram rom (c .want .address) .word)) ram)

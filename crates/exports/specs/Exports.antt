@@ -7,7 +7,8 @@ use Rattle.state.specs.declared.FaultPair.{FaultPair}
 use Rattle.saved.specs.Chip.{Chip, chip}
 use Rattle.saved.specs.Image.{Saved}
 use Rattle.calls.specs.declared.ReadReply.{ReadReply}
-use Rattle.calls.specs.Calls.{AccessDone, accessCall, SnoopDone, snoopCall, readCall, WriteDone, writeCall, UnitDone, resetCall, restoreCall, saveCall}
+use Rattle.calls.specs.Calls.{AccessDone, accessCall, SnoopDone, snoopCall, readCall, WriteDone, writeCall}
+use Rattle.starts.specs.Starts.{UnitDone, resetCall, restoreCall, saveCall}
 use Rattle.layout.specs.Layout.{registersOf, unitOf, accessAs, replyOf, snoopedOf}
 
 -- `next` where a call has no number, else what was there

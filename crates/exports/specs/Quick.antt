@@ -1,4 +1,4 @@
--- An access that only touches a line of the cache, told from the words of a unit, and what a call then answers.
+-- An access that only touches a line of the cache is answered as a call answers it.
 use Prim.Native.Nat.{ℕ, _<_}
 use mathlib.Core.Bool.{Bool, true, false, not, _&&_, false≢true}
 use mathlib.Core.List.{List, [], _∷_}
@@ -12,49 +12,15 @@ use Rattle.state.specs.declared.FaultPair.{FaultPair}
 use Rattle.state.specs.declared.Registers.{Registers}
 use Rattle.lines.specs.Lines.{marked, usedAt, wordAt, mergedAt}
 use Rattle.registers.specs.Registers.{areaOf}
-use Rattle.unit.specs.Answers.{plainOf}
+use Rattle.answers.specs.Answers.{plainOf}
 use Rattle.unit.specs.Unit.{accessOf}
 use Rattle.hits.specs.declared.Hit.{Hit}
-use Rattle.hits.specs.Hits.{noHit, lookOf}
-use Rattle.hits.specs.Laws.{readAt, writtenAt, touchedAt, look-right}
+use Rattle.hit_laws.specs.Laws.{readAt, writtenAt, touchedAt, look-right}
 use Rattle.refusals.specs.Refusals.{accessRefusal}
 use Rattle.calls.specs.Calls.{accessTaken, accessBy as doneBy}
-use Rattle.layout.specs.Layout.{at, registersOf, unitOf, accessAs, bitsOf, replyOf, unit-kept}
+use Rattle.layout.specs.Layout.{registersOf, unitOf, accessAs, bitsOf, replyOf, unit-kept}
+use Rattle.quick.specs.Quick.{plainAccess, quickOf, plainReply, wordReply, writtenReply, linesAfter, cellsAfter, replyAfter}
 use Rattle.exports.specs.Exports.{AccessOut, accessOut, accessBy, accessExport}
-
--- an access that is neither idle nor locked, outside control space
-abbrev pub plainAccess : ℕ → ℕ → ℕ → Bool
-plainAccess address kind enables = not (eqb enables 0) && not (bitOf kind 5) && not (bitOf kind 7 && leb 0xFFF00000 address)
-
-abbrev pub areaAt : List ℕ → Bool → ℕ
-areaAt unit s = pick s (at unit 5) (at unit 6)
-
-unfoldable pub quickOf : List ℕ → List ℕ → List ℕ → ℕ → ℕ → ℕ → Hit
-quickOf unit ps ls address kind enables =
-    pick (not (plainAccess address kind enables)) noHit (lookOf ls (areaAt unit (bitOf kind 7)) (registersOf unit .ports) ps address (bitOf kind 7) (bitOf kind 6))
-
--- a reply without a transaction: its case and its value
-unfoldable pub plainReply : ℕ → ℕ → List ℕ
-plainReply case value = case ∷ value ∷ 0 ∷ 0 ∷ 0 ∷ 0 ∷ 0 ∷ 0 ∷ 0 ∷ 0 ∷ 0 ∷ 0 ∷ 0 ∷ 0 ∷ 0 ∷ 0 ∷ 0 ∷ 0 ∷ 0 ∷ 0 ∷ 0 ∷ 0 ∷ 0 ∷ 0 ∷ []
-
--- to a word that was read, and to one that was written
-abbrev pub wordReply : ℕ → List ℕ
-wordReply w = plainReply 1 w
-
-abbrev pub writtenReply : List ℕ
-writtenReply = plainReply 2 0
-
--- what a hit leaves: the line read or written, and used; the reply
-abbrev pub linesAfter : Bool → List ℕ → Hit → List ℕ
-linesAfter write ls h = pick write (usedAt (marked ls (h .place) 1) (h .place)) (usedAt ls (h .place))
-
-abbrev pub cellsAfter : Bool → List ℕ → Hit → ℕ → ℕ → List ℕ
-cellsAfter write cs h enables word = pick write (mergedAt cs (h .place) (h .address) enables word) cs
-
-abbrev pub replyAfter : Bool → List ℕ → Hit → ℕ → List ℕ
-replyAfter write cs h enables = pick write writtenReply (wordReply (keepOf enables (wordAt cs (h .place) (h .address))))
-
--- ---- as a call answers it
 
 module _ (u : Registers) (p : FaultPair) (ps ls cs ram rom : List ℕ) (a : Access) where
   pub answered : (unit reply : List ℕ) (h : Hit)

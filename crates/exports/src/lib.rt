@@ -1,9 +1,8 @@
 // The C functions with the fault pair by value.
-mod quick;
 
 use calls::AccessCall;
-use calls::UnitCall;
 use calls::WriteCall;
+use starts::UnitCall;
 use state::FaultPair;
 ghost use mathlib.Core.Path.{_≡_};
 ghost use mathlib.Core.List.{[], _∷_};
@@ -215,7 +214,7 @@ pub fn reset(
     ensures { λ r. ⌜ unitOut (r .number) (now (unit .exit)) (r .pair) (now (patc .exit)) (now (lines .exit)) (now (cells .exit)) ≡ resetExport (now (unit .entry)) pair (now (patc .entry)) (now (lines .entry)) (now (cells .entry)) number ⌝ }
 {
     let u = layout::registers(unit);
-    let c = calls::reset(u, pair, patc, lines, cells, number);
+    let c = starts::reset(u, pair, patc, lines, cells, number);
     unit_answer(unit, c)
 }
 
@@ -230,7 +229,7 @@ pub fn restore(
     ensures { λ r. ⌜ unitOut (r .number) (now (unit .exit)) (r .pair) (now (patc .exit)) (now (lines .exit)) (now (cells .exit)) ≡ restoreExport (now (unit .entry)) pair (now (patc .entry)) (now (lines .entry)) (now (cells .entry)) (now (image .entry)) ⌝ }
 {
     let u = layout::registers(unit);
-    let c = calls::restore(u, pair, patc, lines, cells, image);
+    let c = starts::restore(u, pair, patc, lines, cells, image);
     unit_answer(unit, c)
 }
 
@@ -245,7 +244,7 @@ pub fn save(
     ensures { λ r. ⌜ saved (r .number) (now (out .exit)) ≡ saveExport (now (unit .entry)) pair (now (patc .entry)) (now (lines .entry)) (now (cells .entry)) (now (out .entry)) ⌝ }
 {
     let u = layout::registers(unit);
-    let r = calls::save(u, pair, patc, lines, cells, out);
+    let r = starts::save(u, pair, patc, lines, cells, out);
     let number = r.number;
     Numbered { number }
 }

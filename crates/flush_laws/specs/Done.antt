@@ -13,10 +13,10 @@ use Rattle.words.specs.Laws.{and-left}
 use Rattle.memory.specs.Memory.{ramPlace, ramLine}
 use Rattle.lines.specs.Lines.{tagOf, codeAt, stateOf, valid, modified, tagWord, lineAddress, wordAt}
 use Rattle.lines.specs.Laws.{Hit, NoDoubles}
-use Rattle.flush.specs.declared.Kind.{Kind}
-use Rattle.flush.specs.declared.Kind.the-variants.{Invalidate}
-use Rattle.flush.specs.declared.Range.{Range}
-use Rattle.flush.specs.Flush.{coversOf, dropsOf, wellOf, stoppedOf, Sweep, swept}
+use Rattle.sweep.specs.declared.Kind.{Kind}
+use Rattle.sweep.specs.declared.Kind.the-variants.{Invalidate}
+use Rattle.sweep.specs.declared.Range.{Range}
+use Rattle.sweep.specs.Sweep.{coversOf, dropsOf, wellOf, stoppedOf, Sweep, swept}
 use Rattle.flush_laws.specs.Sweep.{flushOf, sweep-by, after, isCopied, linesTo, ramTo, countTo, Fits}
 use Rattle.flush_laws.specs.Point.{after-tag, after-address, after-modified, after-copied, after-dropped, after-other, valid-before, linesTo-done, linesTo-later, linesTo-code, length-linesTo, length-ramTo, First, fit, stops, first, StopsAt, sweep-stops}
 use Rattle.flush_laws.specs.Union.{copied-word, kept-word, runs, reach-of}

@@ -14,9 +14,9 @@ use Rattle.words.specs.Laws.{and-left, and-right, ruled-out}
 use Rattle.memory.specs.Memory.{ramPlace, ramLine, readOf}
 use Rattle.lines.specs.Lines.{setOf, tagOf, stateOf, valid, modified, matches, tagWord, lineAddress, hitOf, wordAt}
 use Rattle.lines.specs.Laws.{Hit, Miss, Looked, found, missing, hit-is}
-use Rattle.flush.specs.declared.Kind.{Kind}
-use Rattle.flush.specs.declared.Kind.the-variants.{CopyBack, Both}
-use Rattle.flush.specs.Flush.{copiesOf}
+use Rattle.sweep.specs.declared.Kind.{Kind}
+use Rattle.sweep.specs.declared.Kind.the-variants.{CopyBack, Both}
+use Rattle.sweep.specs.Sweep.{copiesOf}
 use Rattle.flush_laws.specs.Sweep.{isCopied, linesTo, ramTo, FitsTo}
 use Rattle.flush_laws.specs.Point.{dropped-invalid, after-tag, after-valid, after-uncovered, after-covered, pick-same, linesTo-later, linesTo-done, hits, length-ramTo, ramTo-at}
 use Rattle.flush_laws.specs.Union.{newest-none, copied-word}

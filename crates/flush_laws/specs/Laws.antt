@@ -9,11 +9,11 @@ use mathlib.Core.List.{List, Perm}
 use lib.ListN.{length}
 use Rattle.lines.specs.Lines.{modified, tagWord, wordAt}
 use Rattle.lines.specs.Laws.{Hit, NoDoubles}
-use Rattle.flush.specs.declared.Kind.{Kind}
-use Rattle.flush.specs.declared.Kind.the-variants.{Invalidate, CopyBack, Both}
-use Rattle.flush.specs.declared.Range.{Range}
-use Rattle.flush.specs.declared.Range.the-variants.{Line, Page, Segment, All}
-use Rattle.flush.specs.Flush.{coversOf, Sweep, swept}
+use Rattle.sweep.specs.declared.Kind.{Kind}
+use Rattle.sweep.specs.declared.Kind.the-variants.{Invalidate, CopyBack, Both}
+use Rattle.sweep.specs.declared.Range.{Range}
+use Rattle.sweep.specs.declared.Range.the-variants.{Line, Page, Segment, All}
+use Rattle.sweep.specs.Sweep.{coversOf, Sweep, swept}
 use Rattle.flush_laws.specs.Sweep.{_∪_, endsAlike, flushBy, flushOf, sweep-by, Fits, andThen, flushEach, named}
 use Rattle.flush_laws.specs.Union.{reach-of, union, each-named}
 use Rattle.flush_laws.specs.Twice.{again, joint, joint-only}

@@ -12,15 +12,15 @@ use lib.Seq.{getD-set-same, getD-set-other, ext-getD, set-getD, getD-take, getD-
 use lib.Dec.{eqb}
 use borrow.Author.Tests.{eqb-true, eqb-false, leb-true, ne-eqb, not-false}
 use Rattle.memory.specs.Laws.{length-put}
-use Rattle.flush.specs.Laws.{after-small}
+use Rattle.sweep.specs.Laws.{after-small}
 use Rattle.words.specs.Words.{pick}
 use Rattle.words.specs.Laws.{either, and-left, and-right}
 use Rattle.memory.specs.Memory.{ramLine, putOf, lineFits, writeLineOf}
 use Rattle.lines.specs.Lines.{tagOf, tagAt, stateOf, valid, modified, tagWord, lineAddress, withState, marked, lineWords}
 use Rattle.lines.specs.Laws.{state-keeps-tag, state-set, below4}
-use Rattle.flush.specs.declared.Kind.{Kind}
-use Rattle.flush.specs.declared.Kind.the-variants.{Invalidate, CopyBack, Both}
-use Rattle.flush.specs.Flush.{copiesOf, dropsOf, afterOf, wellOf, stoppedOf, Sweep, swept, copiedOf, lineOf}
+use Rattle.sweep.specs.declared.Kind.{Kind}
+use Rattle.sweep.specs.declared.Kind.the-variants.{Invalidate, CopyBack, Both}
+use Rattle.sweep.specs.Sweep.{copiesOf, dropsOf, afterOf, wellOf, stoppedOf, Sweep, swept, copiedOf, lineOf}
 use Rattle.flush_laws.specs.Sweep.{_∪_, lineBy, sweepBy, treated, after, isCopied, linesTo, ramTo, countTo, FitsTo}
 
 -- ---- four words put into RAM

@@ -11,9 +11,9 @@ use lib.Dec.{eqb, leb, ltb}
 use borrow.Author.Tests.{eqb-true, eq-eqb, ne-eqb, leb-true, ltb-true, le-leb, lt-ltb}
 use Rattle.words.specs.Words.{bitsOf}
 use Rattle.words.specs.Laws.{and-left, and-right, both-ways}
-use Rattle.flush.specs.declared.Range.{Range}
-use Rattle.flush.specs.declared.Range.the-variants.{Line, Page, Segment, All}
-use Rattle.flush.specs.Flush.{coversOf}
+use Rattle.sweep.specs.declared.Range.{Range}
+use Rattle.sweep.specs.declared.Range.the-variants.{Line, Page, Segment, All}
+use Rattle.sweep.specs.Sweep.{coversOf}
 use Rattle.flush_laws.specs.Sweep.{named}
 
 -- an address is in one of the parts that the SARs name just where it is in the whole: each part at least once, in any order, nothing else

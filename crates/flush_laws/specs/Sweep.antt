@@ -7,11 +7,11 @@ use lib.ListN.{set}
 use Rattle.words.specs.Words.{pick}
 use Rattle.memory.specs.Memory.{ramLine, putOf, lineFits}
 use Rattle.lines.specs.Lines.{valid, modified, tagAt, tagWord, lineAddress, withState, lineWords}
-use Rattle.flush.specs.declared.Flushed.{Flushed}
-use Rattle.flush.specs.declared.Kind.{Kind}
-use Rattle.flush.specs.declared.Range.{Range}
-use Rattle.flush.specs.declared.Range.the-variants.{All}
-use Rattle.flush.specs.Flush.{coversOf, copiesOf, dropsOf, afterOf, wellOf, Sweep, swept, added, lineOf, sweepOf}
+use Rattle.sweep.specs.declared.Flushed.{Flushed}
+use Rattle.sweep.specs.declared.Kind.{Kind}
+use Rattle.sweep.specs.declared.Range.{Range}
+use Rattle.sweep.specs.declared.Range.the-variants.{All}
+use Rattle.sweep.specs.Sweep.{coversOf, copiesOf, dropsOf, afterOf, wellOf, Sweep, swept, added, lineOf, sweepOf}
 
 -- a line that passes the test is worked on as under 'all', another is left
 unfoldable pub lineBy : Kind → (ℕ → Bool) → List ℕ → ℕ → List ℕ → List ℕ → Sweep

@@ -7,9 +7,9 @@ use native.Mathlib.Omega.{arith}
 use lib.ListN.{length}
 use Rattle.words.specs.Laws.{and-left, and-right}
 use Rattle.lines.specs.Lines.{modified, tagWord, lineAddress}
-use Rattle.flush.specs.declared.Kind.{Kind}
-use Rattle.flush.specs.declared.Kind.the-variants.{Invalidate, CopyBack, Both}
-use Rattle.flush.specs.Flush.{Sweep, swept}
+use Rattle.sweep.specs.declared.Kind.{Kind}
+use Rattle.sweep.specs.declared.Kind.the-variants.{Invalidate, CopyBack, Both}
+use Rattle.sweep.specs.Sweep.{Sweep, swept}
 use Rattle.flush_laws.specs.Sweep.{_∪_, endsAlike, flushBy, after, isCopied, linesTo, ramTo, countTo, FitsTo, Fits, andThen}
 use Rattle.flush_laws.specs.Point.{after-modified, after-both, length-linesTo, linesTo-code, linesTo-later, linesTo-done, lines-ext, length-ramTo, StopsAt, First, fit, stops, first, sweep-stops}
 use Rattle.flush_laws.specs.Union.{both-lines, both-ram, both-count, fits₂, lines₁, ram₁, whole, runs, then-well, same-sweep}

@@ -12,9 +12,9 @@ use borrow.Author.Tests.{eqb-true, eq-eqb}
 use Rattle.words.specs.Words.{pick}
 use Rattle.words.specs.Laws.{and-left, and-right, ruled-out}
 use Rattle.lines.specs.Lines.{modified, tagAt, tagWord, lineAddress}
-use Rattle.flush.specs.declared.Range.{Range}
-use Rattle.flush.specs.declared.Kind.{Kind}
-use Rattle.flush.specs.Flush.{coversOf, copiesOf, wellOf, Sweep, swept}
+use Rattle.sweep.specs.declared.Range.{Range}
+use Rattle.sweep.specs.declared.Kind.{Kind}
+use Rattle.sweep.specs.Sweep.{coversOf, copiesOf, wellOf, Sweep, swept}
 use Rattle.flush_laws.specs.Sweep.{_∪_, flushBy, flushOf, after, isCopied, linesTo, ramTo, countTo, FitsTo, Fits, andThen, flushEach, named, sweep-by}
 use Rattle.flush_laws.specs.Point.{after-address, after-modified, after-union, length-linesTo, linesTo-code, linesTo-later, linesTo-done, lines-ext, hits, newest, length-ramTo, ramTo-at, sweep-runs, First, fit, stops, first, sweep-stops}
 

@@ -16,7 +16,7 @@ pub extern "C" fn mc88200_reset(
     ensures { λ r. ⌜ unitOut r (now (unit .exit)) (now (fault .exit)) (now (patc .exit)) (now (lines .exit)) (now (cells .exit)) ≡ resetExport (now (unit .entry)) (now (fault .entry)) (now (patc .entry)) (now (lines .entry)) (now (cells .entry)) number ⌝ }
 {
     let r = exports::reset(unit, *fault, patc, lines, cells, number);
-    calls::store(fault, r.pair.status, r.pair.address);
+    lent::store(fault, r.pair.status, r.pair.address);
     r.number
 }
 
@@ -51,7 +51,7 @@ pub extern "C" fn mc88200_access(
         word,
         reply,
     );
-    calls::store(fault, r.pair.status, r.pair.address);
+    lent::store(fault, r.pair.status, r.pair.address);
     r.number
 }
 
@@ -110,7 +110,7 @@ pub extern "C" fn mc88200_write_register(
         value,
         reply,
     );
-    calls::store(fault, r.pair.status, r.pair.address);
+    lent::store(fault, r.pair.status, r.pair.address);
     r.number
 }
 
@@ -141,6 +141,6 @@ pub extern "C" fn mc88200_restore(
     ensures { λ r. ⌜ unitOut r (now (unit .exit)) (now (fault .exit)) (now (patc .exit)) (now (lines .exit)) (now (cells .exit)) ≡ restoreExport (now (unit .entry)) (now (fault .entry)) (now (patc .entry)) (now (lines .entry)) (now (cells .entry)) (now (image .entry)) ⌝ }
 {
     let r = exports::restore(unit, *fault, patc, lines, cells, image);
-    calls::store(fault, r.pair.status, r.pair.address);
+    lent::store(fault, r.pair.status, r.pair.address);
     r.number
 }

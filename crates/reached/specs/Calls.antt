@@ -6,7 +6,7 @@ use mathlib.Core.List.{List}
 use native.Mathlib.Omega.{arith}
 use lib.Dec.{eqb, ltb, leb}
 use borrow.Author.Tests.{ltb-true}
-use Rattle.flush.specs.Laws.{after-small}
+use Rattle.sweep.specs.Laws.{after-small}
 use Rattle.words.specs.Words.{bitOf, bitsOf}
 use Rattle.words.specs.Laws.{either, and-left, and-right}
 use Rattle.memory.specs.Memory.{Wrote, writeLineOf}
@@ -20,19 +20,19 @@ use Rattle.state.specs.declared.Outcome.{Outcome}
 use Rattle.state.specs.Own.{ownScr, ownStatus, own-scr}
 use Rattle.state.specs.Outcome.{pairOf}
 use Rattle.flight.specs.Steps.{opening}
-use Rattle.flush.specs.declared.Flushed.{Flushed}
-use Rattle.flush.specs.declared.Kind.{Kind}
-use Rattle.flush.specs.declared.Range.{Range}
+use Rattle.sweep.specs.declared.Flushed.{Flushed}
+use Rattle.sweep.specs.declared.Kind.{Kind}
+use Rattle.sweep.specs.declared.Range.{Range}
 use Rattle.snoop.specs.declared.Snooped.{Snooped}
 use Rattle.snoop.specs.declared.Snooped.the-variants.{Clear, Retry, Failed}
-use Rattle.flush.specs.Flush.{Sweep, swept, coversOf, copiesOf, dropsOf, afterOf, copiedOf, lineOf, sweepOf}
+use Rattle.sweep.specs.Sweep.{Sweep, swept, coversOf, copiesOf, dropsOf, afterOf, copiedOf, lineOf, sweepOf}
 use Rattle.snoop.specs.Snoop.{Snoop, yieldOf, retriedOf, hitBy, snoopOf as lineSnoop}
 use Rattle.commands.specs.declared.Command.{Command}
 use Rattle.commands.specs.declared.Command.the-variants.{Nothing, Flush, Probe, Clear as ClearEntries}
 use Rattle.driver.specs.Alone.{memory}
 use Rattle.registers.specs.Registers.{areaOf, withScr}
 use Rattle.commands.specs.Commands.{Commanded, commandOf, flushOf, runOf}
-use Rattle.unit.specs.Answers.{faultOf, plainOf, failedOf, writtenOf}
+use Rattle.answers.specs.Answers.{faultOf, plainOf, failedOf, writtenOf}
 use Rattle.unit.specs.Unit.{Kept, writeOf, Controlled, reachesOf, controlOf, Whole, mappedOf, accessOf, afterSnoop, snoopOf}
 use Rattle.fields.specs.Fields.{Words}
 use Rattle.reached.specs.Good.{GoodRegisters, GoodPair, GoodEntries, GoodLines, GoodCells}

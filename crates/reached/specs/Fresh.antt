@@ -15,7 +15,7 @@ use Rattle.state.specs.Reset.{resetOf, noFault}
 use Rattle.lines.specs.Lines.{tagAt, codeAt}
 use Rattle.lines.specs.Laws.{NoDoubles}
 use Rattle.patc.specs.Laws.{NoTwins}
-use Rattle.unit.specs.Fresh.{clearedOf, freshWord, freshLines}
+use Rattle.fresh.specs.Fresh.{clearedOf, freshWord, freshLines}
 use Rattle.fields.specs.Fields.{Words}
 use Rattle.saved.specs.declared.Layout.the-variants.{Entries, Sets}
 use Rattle.saved.specs.Chip.{chip, ownWord}

@@ -6,7 +6,7 @@ use mathlib.Core.List.{List}
 use lib.ListN.{length}
 use Rattle.state.specs.declared.Access.{Access}
 use Rattle.state.specs.Reset.{resetOf, noFault}
-use Rattle.unit.specs.Fresh.{clearedOf, freshLines}
+use Rattle.fresh.specs.Fresh.{clearedOf, freshLines}
 use Rattle.unit.specs.Unit.{Kept, writeOf, Whole, accessOf, Snooping, snoopOf}
 use Rattle.fields.specs.Fields.{Bytes, Words}
 use Rattle.saved.specs.Chip.{Chip, chip}

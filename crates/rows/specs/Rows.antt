@@ -14,7 +14,7 @@ use Rattle.state.specs.Reset.{resetOf, noFault}
 use Rattle.lines.specs.Lines.{setOf, cellOf, victimOf}
 use Rattle.pages.specs.Pages.{segmentAt, pageAt, portHits, portOf, blockOf, combinedOf, protectionOf}
 use Rattle.registers.specs.Registers.{readOf as registerOf}
-use Rattle.unit.specs.Answers.{plainOf, failedOf}
+use Rattle.answers.specs.Answers.{plainOf, failedOf}
 use Rattle.unit.specs.Unit.{controlOf, accessOf}
 
 -- a row: its number in document 01, what the definitions give, and what document 01 says

@@ -1,4 +1,2 @@
-pub mod Answers
 pub mod Unit
 pub mod Mapped
-pub mod Fresh

@@ -12,7 +12,7 @@ use Rattle.flight.specs.Ops.{System, system, onCached, leftOf}
 use Rattle.flight.specs.Follows.{endOf, follows}
 use Rattle.driver.specs.Alone.{Memory, memory, alone}
 use Rattle.registers.specs.Registers.{areaOf}
-use Rattle.unit.specs.Answers.{flownOf}
+use Rattle.answers.specs.Answers.{flownOf}
 use Rattle.unit.specs.Unit.{whole, endedBy, mappedOf}
 
 module _ (u : Registers) (p : FaultPair) (a : Access) (ps ls cs ram rom ls₁ cs₁ ps₂ ls₂ cs₂ ram₂ : List ℕ) (f g : Flight) where

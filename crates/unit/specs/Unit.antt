@@ -13,13 +13,13 @@ use Rattle.flight.specs.Steps.{Scene, Ended, accessOf as stepsOf, opening}
 use Rattle.snoop.specs.declared.Snooped.{Snooped}
 use Rattle.snoop.specs.declared.Snooped.the-variants.{Clear, Retry, Failed}
 use Rattle.snoop.specs.Snoop.{Snoop, snoopOf as lineSnoop}
-use Rattle.unit.specs.declared.answers.Accessed.{Accessed}
+use Rattle.answers.specs.declared.Accessed.{Accessed}
 use Rattle.registers.specs.declared.Stored.{Stored}
 use Rattle.unit.specs.declared.Watched.{Watched}
 use Rattle.driver.specs.Alone.{Memory, memory, alone}
 use Rattle.registers.specs.Registers.{areaOf, readOf, storedOf, setOf, withScr, withSsr, withPointer}
 use Rattle.commands.specs.Commands.{Commanded, commandOf, runOf}
-use Rattle.unit.specs.Answers.{totalOf, faultOf, accessed, answerOf, plainOf, failedOf, writtenOf}
+use Rattle.answers.specs.Answers.{totalOf, faultOf, accessed, answerOf, plainOf, failedOf, writtenOf}
 
 -- ---- a register write
 

@@ -1,6 +1,4 @@
 // One unit on its memory: accesses, register calls, snoops and reset.
-pub mod answers;
-pub mod fresh;
 
 use answers::Accessed;
 use registers::Stored;

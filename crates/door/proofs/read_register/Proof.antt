@@ -1,9 +1,9 @@
 -- `door::read_register` meets its contract: a walk of its MIR, by hand. What is lent by reference to a struct is opened, and stays open over the call of `read_register`, to which the rest is passed on as it came.
 -- All that the proof knows of `read_register` is that it meets its contract.
 -- Assumes nothing.
-use Rattle.calls.proofs.Words.{_≡_, refl, ap, ℕ, _<_, _^_, [], _∷_, List, URA, fullShare, named, w32, Val, vint, vptr, SProp, ent, emp, via, fst∗, id⊢, fat, flft, Memory, Routine, Heap, Calls, Loops, WpFn, Tables, Atoms, Fun, givenOf, tables, tablesOf, Given, ‵, raw, _⊛_, _$_, _∵_, !, qed, by, move, keep, drop, use1, split, join, pick, rewrite, fsplit, fsplit3, fjoin, suffices, frame, await, done, look, look-raw, init, forget, stop, hop, from, load, of-opd, and-then, no-more, assigns, land, returns, enter, alloc1, alloc0, params1, pass1, pass0, free1, free0, FmC, fmOf, owns, Is, shows, valss, mem, uint-vals, uint-tells, RefT, ptr-vals, shr-tells, only, looks, shuts, owned, peeks, heard, nothing, spelt, AreAll, LL-fields, Args, Vals, onEntry, Lfts, Shares, AllOutlive, toks, typesAt, Contract, Triple, Meets, tripleOf, calls-at, entered, cited, says, walkOf}
+use Rattle.lent.proofs.Words.{_≡_, refl, ap, ℕ, _<_, _^_, [], _∷_, List, URA, fullShare, named, w32, Val, vint, vptr, SProp, ent, emp, via, fst∗, id⊢, fat, flft, Memory, Routine, Heap, Calls, Loops, WpFn, Tables, Atoms, Fun, givenOf, tables, tablesOf, Given, ‵, raw, _⊛_, _$_, _∵_, !, qed, by, move, keep, drop, use1, split, join, pick, rewrite, fsplit, fsplit3, fjoin, suffices, frame, await, done, look, look-raw, init, forget, stop, hop, from, load, of-opd, and-then, no-more, assigns, land, returns, enter, alloc1, alloc0, params1, pass1, pass0, free1, free0, FmC, fmOf, owns, Is, shows, valss, mem, uint-vals, uint-tells, RefT, ptr-vals, shr-tells, only, looks, shuts, owned, peeks, heard, nothing, spelt, AreAll, LL-fields, Args, Vals, onEntry, Lfts, Shares, AllOutlive, toks, typesAt, Contract, Triple, Meets, tripleOf, calls-at, entered, cited, says, walkOf}
 use denote.Struct.Laws as LL
-use Rattle.calls.proofs.Door.{stayed, ends, meets, Returned}
+use Rattle.lent.proofs.Door.{stayed, ends, meets, Returned}
 use Rattle.state.specs.declared.Registers.{Registers as RegistersR}
 use Rattle.state.proofs.Registers as Registers
 use Rattle.state.proofs.Registers.Laws as Registers′

@@ -1,25 +1,25 @@
 -- `door::save` meets its contract: a walk of its MIR, by hand. What is lent by reference to a struct is opened, and stays open over the call of `save`, to which the rest is passed on as it came.
 -- All that the proof knows of `save` is that it meets its contract.
 -- Assumes nothing.
-use Rattle.calls.proofs.Words.{_≡_, refl, ap, ℕ, [], _∷_, List, length, URA, fullShare, named, w32, Val, vint, vptr, SProp, ent, emp, via, fst∗, id⊢, fat, flft, Memory, Routine, Heap, Calls, Loops, WpFn, Tables, Atoms, Fun, givenOf, tables, tablesOf, Given, ‵, raw, _⊛_, _$_, _∵_, !, qed, by, move, keep, drop, use1, split, join, pick, rewrite, fsplit, fsplit3, fjoin, suffices, frame, await, done, look, look-raw, init, forget, stop, hop, fld, from, load, addr, of-opd, and-then, no-more, assigns, land, returns, enter, alloc1, alloc0, params1, pass1, pass0, free1, free0, agg, whole, sub, look-in, FmC, fmOf, owns, Is, shows, valss, mem, uint-makes, u32, u8, Array, RefT, ptr-vals, shr-tells, sliceVal, Room, slice-vals, mut-slice-tells, shr-slice-tells, only, looks, shuts, owned, peeks, heard, nothing, spelt, AreAll, LL-fields, Args, Vals, onEntry, Lfts, Shares, AllOutlive, toks, typesAt, Contract, Triple, Meets, tripleOf, calls-at, entered, cited, says, walkOf}
+use Rattle.lent.proofs.Words.{_≡_, refl, ap, ℕ, [], _∷_, List, length, URA, fullShare, named, w32, Val, vint, vptr, SProp, ent, emp, via, fst∗, id⊢, fat, flft, Memory, Routine, Heap, Calls, Loops, WpFn, Tables, Atoms, Fun, givenOf, tables, tablesOf, Given, ‵, raw, _⊛_, _$_, _∵_, !, qed, by, move, keep, drop, use1, split, join, pick, rewrite, fsplit, fsplit3, fjoin, suffices, frame, await, done, look, look-raw, init, forget, stop, hop, fld, from, load, addr, of-opd, and-then, no-more, assigns, land, returns, enter, alloc1, alloc0, params1, pass1, pass0, free1, free0, agg, whole, sub, look-in, FmC, fmOf, owns, Is, shows, valss, mem, uint-makes, u32, u8, Array, RefT, ptr-vals, shr-tells, sliceVal, Room, slice-vals, mut-slice-tells, shr-slice-tells, only, looks, shuts, owned, peeks, heard, nothing, spelt, AreAll, LL-fields, Args, Vals, onEntry, Lfts, Shares, AllOutlive, toks, typesAt, Contract, Triple, Meets, tripleOf, calls-at, entered, cited, says, walkOf}
 use denote.Struct.Laws as LL
-use Rattle.calls.proofs.Door.{stayed, ends, meets, Returned}
+use Rattle.lent.proofs.Door.{stayed, ends, meets, Returned}
 use Rattle.state.specs.declared.Registers.{Registers as RegistersR}
 use Rattle.state.proofs.Registers as Registers
 use Rattle.state.proofs.Registers.Laws as Registers′
 use Rattle.state.specs.declared.FaultPair.{FaultPair as FaultPairR}
 use Rattle.state.proofs.FaultPair as FaultPair
 use Rattle.state.proofs.FaultPair.Laws as FaultPair′
-use Rattle.calls.specs.declared.SaveReply.{SaveReply as SaveReplyR}
-use Rattle.calls.proofs.SaveReply as SaveReply
-use Rattle.calls.proofs.SaveReply.Laws as SaveReply′
-use Rattle.calls.specs.Calls.{saveCall}
+use Rattle.starts.specs.declared.SaveReply.{SaveReply as SaveReplyR}
+use Rattle.starts.proofs.SaveReply as SaveReply
+use Rattle.starts.proofs.SaveReply.Laws as SaveReply′
+use Rattle.starts.specs.Starts.{saveCall}
 use Rattle.saved.specs.Image.{saved}
 use Rattle.saved.specs.Chip.{chip}
-use Rattle.calls.proofs.save as core
-use Rattle.calls.proofs.save.Symbol as core-def
-use Rattle.calls.proofs.save.Symbol.{name as #core}
-use Rattle.calls.proofs.save.Met as core-thm
+use Rattle.starts.proofs.save as core
+use Rattle.starts.proofs.save.Symbol as core-def
+use Rattle.starts.proofs.save.Symbol.{name as #core}
+use Rattle.starts.proofs.save.Met as core-thm
 use Rattle.door.proofs.save.Key.{name as #door}
 use Rattle.door.proofs.save as f
 use Rattle.door.proofs.save.Statement as stated
@@ -93,4 +93,4 @@ save-spec 𝓤 H 𝓜 𝓖 𝓡 =
     entered 𝓤 H (tripleOf 𝓤 H (𝓖 .A) f.signature (f.spec 𝓤 H (𝓖 .A) (𝓜 .mem) (𝓡 .run)))
     (tables 𝓤 H 𝓜 𝓡 code.env .C) (tables 𝓤 H 𝓜 𝓡 code.env .Λ) #door code.function (code.unfolded 𝓤 H 𝓜 𝓡)
     (save-meets 𝓤 H (𝓖 .A) (givenOf 𝓤 H 𝓜 𝓖) (𝓜 .mem) (𝓡 .run) (tablesOf 𝓤 H 𝓜 (tables 𝓤 H 𝓜 𝓡 code.env))
-    (cited 𝓤 H (CoreC 𝓤 H (𝓖 .A) (𝓜 .mem) (𝓡 .run)) 𝓜 𝓡 code.env #core core-def.routine code.calls-calls·save (core-thm.met 𝓤 H 𝓜 𝓖 𝓡)))
+    (cited 𝓤 H (CoreC 𝓤 H (𝓖 .A) (𝓜 .mem) (𝓡 .run)) 𝓜 𝓡 code.env #core core-def.routine code.calls-starts·save (core-thm.met 𝓤 H 𝓜 𝓖 𝓡)))

@@ -1,6 +1,6 @@
 use borrow.Author.Needs.{needs}
 use Rattle.flush.proofs.copy_back.Statement.{statement}
-use Rattle.flush.specs.Flush.{copiedOf}
+use Rattle.sweep.specs.Sweep.{copiedOf}
 use Rattle.flush.proofs.copy_back.Tie as tie
 
 returns : tie.Need-returns

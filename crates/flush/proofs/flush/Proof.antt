@@ -6,8 +6,8 @@ use native.Mathlib.Numerals.{add-one}
 use lib.ListN.{length}
 use borrow.Author.Tests.{not-true, not-false}
 use borrow.Author.Needs.{needs}
-use Rattle.flush.specs.Flush.{swept, wellOf, sweepOf}
-use Rattle.flush.specs.Laws.{goes-on, stops}
+use Rattle.sweep.specs.Sweep.{swept, wellOf, sweepOf}
+use Rattle.sweep.specs.Laws.{goes-on, stops}
 use Rattle.flush.proofs.flush.Statement.{statement}
 use Rattle.flush.proofs.flush.Tie as tie
 

@@ -1,6 +1,6 @@
 use borrow.Author.Needs.{needs}
 use Rattle.flush.proofs.flush_line.Statement.{statement}
-use Rattle.flush.specs.Flush.{lineOf}
+use Rattle.sweep.specs.Sweep.{lineOf}
 use Rattle.flush.proofs.flush_line.Tie as tie
 
 returns : tie.Need-returns

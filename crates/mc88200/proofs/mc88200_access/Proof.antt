@@ -1,9 +1,9 @@
 -- `mc88200::mc88200_access` meets its contract: a walk of its MIR, by hand. What is lent by reference to a struct is opened, and stays open over the call of `access`, to which the rest is passed on as it came.
 -- All that the proof knows of `access` is that it meets its contract.
 -- Assumes nothing.
-use Rattle.calls.proofs.Words.{_≡_, refl, ap, _∙_, ℕ, _<_, _^_, [], _∷_, List, length, URA, fullShare, named, w32, Val, vint, vptr, SProp, ent, emp, via, fst∗, id⊢, ftrue, fat, flft, Memory, Routine, Heap, Calls, Loops, WpFn, Tables, Atoms, Fun, givenOf, tables, tablesOf, Given, ‵, raw, _⊛_, _$_, _∵_, !, qed, by, move, keep, drop, use1, split, join, pick, rewrite, fsplit, fsplit3, fjoin, fjoin3, feqI, suffices, frame, await, done, look, look-raw, init, forget, stop, hop, fld, from, load, addr, of-opd, and-then, no-more, assigns, land, returns, enter, alloc1, alloc0, params1, pass1, pass0, free1, free0, agg, whole, sub, look-in, FmC, fmOf, owns, Is, shows, valss, mem, Nothing, uint-vals, uint-tells, uint-makes, nothing-lawful, u32, Array, RefT, ptr-vals, mut-tells, sliceVal, Room, slice-vals, mut-slice-tells, shr-slice-tells, only, opens, closes, owned, peeks, heard, nothing, spelt, AreAll, LL-fields, Args, Vals, onEntry, Lfts, Shares, AllOutlive, toks, typesAt, Contract, Triple, Meets, tripleOf, calls-at, entered, cited, says, walkOf}
+use Rattle.lent.proofs.Words.{_≡_, refl, ap, _∙_, ℕ, _<_, _^_, [], _∷_, List, length, URA, fullShare, named, w32, Val, vint, vptr, SProp, ent, emp, via, fst∗, id⊢, ftrue, fat, flft, Memory, Routine, Heap, Calls, Loops, WpFn, Tables, Atoms, Fun, givenOf, tables, tablesOf, Given, ‵, raw, _⊛_, _$_, _∵_, !, qed, by, move, keep, drop, use1, split, join, pick, rewrite, fsplit, fsplit3, fjoin, fjoin3, feqI, suffices, frame, await, done, look, look-raw, init, forget, stop, hop, fld, from, load, addr, of-opd, and-then, no-more, assigns, land, returns, enter, alloc1, alloc0, params1, pass1, pass0, free1, free0, agg, whole, sub, look-in, FmC, fmOf, owns, Is, shows, valss, mem, Nothing, uint-vals, uint-tells, uint-makes, nothing-lawful, u32, Array, RefT, ptr-vals, mut-tells, sliceVal, Room, slice-vals, mut-slice-tells, shr-slice-tells, only, opens, closes, owned, peeks, heard, nothing, spelt, AreAll, LL-fields, Args, Vals, onEntry, Lfts, Shares, AllOutlive, toks, typesAt, Contract, Triple, Meets, tripleOf, calls-at, entered, cited, says, walkOf}
 use denote.Struct.Laws as LL
-use Rattle.calls.proofs.Door.{stayed, ends, meets, Returned}
+use Rattle.lent.proofs.Door.{stayed, ends, meets, Returned}
 use Rattle.state.specs.declared.FaultPair.{FaultPair as FaultPairR}
 use Rattle.state.proofs.FaultPair as FaultPair
 use Rattle.state.proofs.FaultPair.Laws as FaultPair′
@@ -11,15 +11,15 @@ use Rattle.exports.specs.declared.Called.{Called as CalledR}
 use Rattle.exports.proofs.Called as Called
 use Rattle.exports.proofs.Called.Laws as Called′
 use Rattle.exports.specs.Exports.{accessOut, accessExport}
-use Rattle.calls.specs.Calls.{pairWith}
+use Rattle.lent.specs.Lent.{pairWith}
 use Rattle.exports.proofs.access as core
 use Rattle.exports.proofs.access.Symbol as core-def
 use Rattle.exports.proofs.access.Symbol.{name as #core}
 use Rattle.exports.proofs.access.Met as core-thm
-use Rattle.calls.proofs.store as store
-use Rattle.calls.proofs.store.Symbol as store-def
-use Rattle.calls.proofs.store.Symbol.{name as #store}
-use Rattle.calls.proofs.store.Met as store-thm
+use Rattle.lent.proofs.store as store
+use Rattle.lent.proofs.store.Symbol as store-def
+use Rattle.lent.proofs.store.Symbol.{name as #store}
+use Rattle.lent.proofs.store.Met as store-thm
 use Rattle.mc88200.proofs.mc88200_access.Key.{name as #door}
 use Rattle.mc88200.proofs.mc88200_access as f
 use Rattle.mc88200.proofs.mc88200_access.Statement as stated
@@ -115,4 +115,4 @@ mc88200-access-spec 𝓤 H 𝓜 𝓖 𝓡 =
     (tables 𝓤 H 𝓜 𝓡 code.env .C) (tables 𝓤 H 𝓜 𝓡 code.env .Λ) #door code.function (code.unfolded 𝓤 H 𝓜 𝓡)
     (mc88200-access-meets 𝓤 H (𝓖 .A) (givenOf 𝓤 H 𝓜 𝓖) (𝓜 .mem) (𝓡 .run) (tablesOf 𝓤 H 𝓜 (tables 𝓤 H 𝓜 𝓡 code.env))
     (cited 𝓤 H (CoreC 𝓤 H (𝓖 .A) (𝓜 .mem) (𝓡 .run)) 𝓜 𝓡 code.env #core core-def.routine code.calls-exports·access (core-thm.met 𝓤 H 𝓜 𝓖 𝓡))
-    (cited 𝓤 H (StoreC 𝓤 H (𝓖 .A) (𝓜 .mem) (𝓡 .run)) 𝓜 𝓡 code.env #store store-def.routine code.calls-calls·store (store-thm.met 𝓤 H 𝓜 𝓖 𝓡)))
+    (cited 𝓤 H (StoreC 𝓤 H (𝓖 .A) (𝓜 .mem) (𝓡 .run)) 𝓜 𝓡 code.env #store store-def.routine code.calls-lent·store (store-thm.met 𝓤 H 𝓜 𝓖 𝓡)))

@@ -1,9 +1,9 @@
 -- `mc88200::mc88200_read_register` meets its contract: a walk of its MIR, by hand. What is lent by reference to a struct is opened, and stays open over the call of `read_register`, to which the rest is passed on as it came.
 -- All that the proof knows of `read_register` is that it meets its contract.
 -- Assumes nothing.
-use Rattle.calls.proofs.Words.{_≡_, refl, ap, ℕ, _<_, _^_, [], _∷_, List, URA, fullShare, named, w32, Val, vint, vptr, SProp, ent, emp, via, fst∗, id⊢, fat, flft, Memory, Routine, Heap, Calls, Loops, WpFn, Tables, Atoms, Fun, givenOf, tables, tablesOf, Given, ‵, raw, _⊛_, _$_, _∵_, !, qed, by, move, keep, drop, use1, split, join, pick, rewrite, fsplit, fsplit3, fjoin, suffices, frame, await, done, look, look-raw, init, forget, stop, hop, fld, from, load, addr, of-opd, and-then, no-more, assigns, land, returns, enter, alloc1, alloc0, params1, pass1, pass0, free1, free0, whole, sub, look-in, FmC, fmOf, owns, Is, shows, valss, mem, uint-vals, uint-tells, uint-makes, u32, Array, RefT, ptr-vals, mut-tells, shr-tells, only, looks, shuts, owned, peeks, heard, nothing, spelt, AreAll, LL-fields, Args, Vals, onEntry, Lfts, Shares, AllOutlive, toks, typesAt, Contract, Triple, Meets, tripleOf, calls-at, entered, cited, says, walkOf}
+use Rattle.lent.proofs.Words.{_≡_, refl, ap, ℕ, _<_, _^_, [], _∷_, List, URA, fullShare, named, w32, Val, vint, vptr, SProp, ent, emp, via, fst∗, id⊢, fat, flft, Memory, Routine, Heap, Calls, Loops, WpFn, Tables, Atoms, Fun, givenOf, tables, tablesOf, Given, ‵, raw, _⊛_, _$_, _∵_, !, qed, by, move, keep, drop, use1, split, join, pick, rewrite, fsplit, fsplit3, fjoin, suffices, frame, await, done, look, look-raw, init, forget, stop, hop, fld, from, load, addr, of-opd, and-then, no-more, assigns, land, returns, enter, alloc1, alloc0, params1, pass1, pass0, free1, free0, whole, sub, look-in, FmC, fmOf, owns, Is, shows, valss, mem, uint-vals, uint-tells, uint-makes, u32, Array, RefT, ptr-vals, mut-tells, shr-tells, only, looks, shuts, owned, peeks, heard, nothing, spelt, AreAll, LL-fields, Args, Vals, onEntry, Lfts, Shares, AllOutlive, toks, typesAt, Contract, Triple, Meets, tripleOf, calls-at, entered, cited, says, walkOf}
 use denote.Struct.Laws as LL
-use Rattle.calls.proofs.Door.{stayed, ends, meets, Returned}
+use Rattle.lent.proofs.Door.{stayed, ends, meets, Returned}
 use Rattle.state.specs.declared.FaultPair.{FaultPair as FaultPairR}
 use Rattle.state.proofs.FaultPair as FaultPair
 use Rattle.state.proofs.FaultPair.Laws as FaultPair′

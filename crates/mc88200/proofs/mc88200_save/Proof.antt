@@ -1,9 +1,9 @@
 -- `mc88200::mc88200_save` meets its contract: a walk of its MIR, by hand. What is lent by reference to a struct is opened, and stays open over the call of `save`, to which the rest is passed on as it came.
 -- All that the proof knows of `save` is that it meets its contract.
 -- Assumes nothing.
-use Rattle.calls.proofs.Words.{_≡_, refl, ap, ℕ, [], _∷_, List, length, URA, fullShare, named, w32, Val, vint, vptr, SProp, ent, emp, via, fst∗, id⊢, fat, flft, Memory, Routine, Heap, Calls, Loops, WpFn, Tables, Atoms, Fun, givenOf, tables, tablesOf, Given, ‵, raw, _⊛_, _$_, _∵_, !, qed, by, move, keep, drop, use1, split, join, pick, rewrite, fsplit, fsplit3, fjoin, suffices, frame, await, done, look, look-raw, init, forget, stop, hop, fld, from, load, addr, of-opd, and-then, no-more, assigns, land, returns, enter, alloc1, alloc0, params1, pass1, pass0, free1, free0, agg, whole, sub, look-in, FmC, fmOf, owns, Is, shows, valss, mem, uint-makes, u32, u8, Array, RefT, ptr-vals, shr-tells, sliceVal, Room, slice-vals, mut-slice-tells, shr-slice-tells, only, looks, shuts, owned, peeks, heard, nothing, spelt, AreAll, LL-fields, Args, Vals, onEntry, Lfts, Shares, AllOutlive, toks, typesAt, Contract, Triple, Meets, tripleOf, calls-at, entered, cited, says, walkOf}
+use Rattle.lent.proofs.Words.{_≡_, refl, ap, ℕ, [], _∷_, List, length, URA, fullShare, named, w32, Val, vint, vptr, SProp, ent, emp, via, fst∗, id⊢, fat, flft, Memory, Routine, Heap, Calls, Loops, WpFn, Tables, Atoms, Fun, givenOf, tables, tablesOf, Given, ‵, raw, _⊛_, _$_, _∵_, !, qed, by, move, keep, drop, use1, split, join, pick, rewrite, fsplit, fsplit3, fjoin, suffices, frame, await, done, look, look-raw, init, forget, stop, hop, fld, from, load, addr, of-opd, and-then, no-more, assigns, land, returns, enter, alloc1, alloc0, params1, pass1, pass0, free1, free0, agg, whole, sub, look-in, FmC, fmOf, owns, Is, shows, valss, mem, uint-makes, u32, u8, Array, RefT, ptr-vals, shr-tells, sliceVal, Room, slice-vals, mut-slice-tells, shr-slice-tells, only, looks, shuts, owned, peeks, heard, nothing, spelt, AreAll, LL-fields, Args, Vals, onEntry, Lfts, Shares, AllOutlive, toks, typesAt, Contract, Triple, Meets, tripleOf, calls-at, entered, cited, says, walkOf}
 use denote.Struct.Laws as LL
-use Rattle.calls.proofs.Door.{stayed, ends, meets, Returned}
+use Rattle.lent.proofs.Door.{stayed, ends, meets, Returned}
 use Rattle.state.specs.declared.FaultPair.{FaultPair as FaultPairR}
 use Rattle.state.proofs.FaultPair as FaultPair
 use Rattle.state.proofs.FaultPair.Laws as FaultPair′

@@ -1,3 +1,0 @@
-pub mod Flush
-pub mod Laws
-pub mod Step
