@@ -14,7 +14,8 @@ use Rattle.snoop.specs.declared.Snooped.{Snooped}
 use Rattle.snoop.specs.declared.Snooped.the-variants.{Clear}
 use Rattle.answers.specs.Answers.{plainOf}
 use Rattle.registers.specs.Registers.{readOf}
-use Rattle.unit.specs.Unit.{Kept, Whole, Snooping, writeOf, accessOf, snoopOf}
+use Rattle.control.specs.Control.{Kept, writeOf}
+use Rattle.unit.specs.Unit.{Whole, Snooping, accessOf, snoopOf}
 use Rattle.calls.specs.declared.AccessReply.{AccessReply}
 use Rattle.calls.specs.declared.SnoopReply.{SnoopReply}
 use Rattle.calls.specs.declared.ReadReply.{ReadReply}

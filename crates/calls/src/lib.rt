@@ -185,5 +185,5 @@ pub fn write_register(
     if number != 0 {
         return write_call(number, u, pair, 0);
     }
-    write_taken(unit::write_register(u, pair, patc, lines, cells, ram, rom, offset, value))
+    write_taken(control::write_register(u, pair, patc, lines, cells, ram, rom, offset, value))
 }

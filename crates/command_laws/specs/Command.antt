@@ -12,7 +12,7 @@ use Rattle.sweep.specs.Sweep.{Sweep, sweepOf}
 use Rattle.commands.specs.declared.Command.the-variants.{Flush}
 use Rattle.registers.specs.Registers.{withScr, withSsr, withSar, setRegisterOf, setFaultOf, setPortOf}
 use Rattle.commands.specs.Commands.{commandOf, rangeOf, flushedOf, flushOf, runOf}
-use Rattle.unit.specs.Unit.{Kept, kept, writeOf}
+use Rattle.control.specs.Control.{Kept, kept, writeOf}
 use Rattle.flush_laws.specs.Sweep.{flushEach}
 
 -- a register write on what earlier calls left

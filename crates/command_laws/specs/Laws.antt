@@ -12,7 +12,7 @@ use Rattle.sweep.specs.declared.Kind.the-variants.{Invalidate, CopyBack, Both}
 use Rattle.sweep.specs.declared.Range.{Range}
 use Rattle.sweep.specs.declared.Range.the-variants.{Line, Page, Segment, All}
 use Rattle.sweep.specs.Sweep.{coversOf, Sweep}
-use Rattle.unit.specs.Unit.{Kept}
+use Rattle.control.specs.Control.{Kept}
 use Rattle.flush_laws.specs.Sweep.{Fits, flushEach, flushOf}
 use Rattle.flush_laws.specs.Ranges.{linesOf, pagesOf, segmentsOf}
 use Rattle.flush_laws.specs.Held.{memoryOf, heldOf}

@@ -19,7 +19,7 @@ use Rattle.pages.specs.Pages.{segmentAt, pageAt}
 use Rattle.lookup.specs.Lookup.{placeOf}
 use Rattle.registers.specs.Registers.{areaOf, withScr, withSsr, withSar}
 use Rattle.commands.specs.Commands.{probingOf, commandOf, runOf}
-use Rattle.unit.specs.Unit.{writeOf}
+use Rattle.control.specs.Control.{writeOf}
 use Rattle.commands.specs.Probe.{ceOf, failedOf, pageOf, tablesOf, placedOf, probeOf}
 
 -- a failed read fails at the address that was read

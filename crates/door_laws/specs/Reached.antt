@@ -9,7 +9,8 @@ use borrow.Author.Tests.{eq-eqb, eqb-true}
 use Rattle.words.specs.Words.{pick}
 use Rattle.state.specs.declared.Access.{Access}
 use Rattle.snoop.specs.declared.Snooped.the-variants.{Clear}
-use Rattle.unit.specs.Unit.{accessOf, writeOf, snoopOf}
+use Rattle.control.specs.Control.{writeOf}
+use Rattle.unit.specs.Unit.{accessOf, snoopOf}
 use Rattle.fields.specs.Fields.{Bytes, Words}
 use Rattle.saved.specs.Chip.{Chip, chip}
 use Rattle.saved.specs.Verdict.{Loaded, verdictOf}

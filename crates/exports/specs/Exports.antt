@@ -1,19 +1,13 @@
 -- The C functions: a refusal's number and nothing changed, no reply either; or 0, and what the call of door does.
 use Prim.Native.Nat.{ℕ}
 use mathlib.Core.List.{List, [], _∷_}
-use lib.Dec.{eqb}
-use Rattle.words.specs.Words.{pick, bitOf}
+use Rattle.words.specs.Words.{bitOf}
+use Rattle.lent.specs.Lent.{unless}
 use Rattle.state.specs.declared.FaultPair.{FaultPair}
-use Rattle.saved.specs.Chip.{Chip, chip}
-use Rattle.saved.specs.Image.{Saved}
+use Rattle.unit.specs.Unit.{accessOf}
 use Rattle.calls.specs.declared.ReadReply.{ReadReply}
-use Rattle.calls.specs.Calls.{AccessDone, accessCall, SnoopDone, snoopCall, readCall, WriteDone, writeCall}
-use Rattle.starts.specs.Starts.{UnitDone, resetCall, restoreCall, saveCall}
+use Rattle.calls.specs.Calls.{AccessDone, accessTaken, accessCall, SnoopDone, snoopCall, readCall, WriteDone, writeCall}
 use Rattle.layout.specs.Layout.{registersOf, unitOf, accessAs, replyOf, snoopedOf}
-
--- `next` where a call has no number, else what was there
-abbrev pub unless : ℕ → List ℕ → List ℕ → List ℕ
-unless n was next = pick (eqb n 0) next was
 
 -- ---- an access
 
@@ -35,6 +29,11 @@ unfoldable pub accessBy : List ℕ → List ℕ → AccessDone → AccessOut
 accessBy unit reply d =
     accessOut (d .reply .number) (unless (d .reply .number) unit (unitOf (d .reply .registers))) (d .pair) (d .patc) (d .lines) (d .cells) (d .ram)
     (unless (d .reply .number) reply (replyOf (d .reply .answer)))
+
+-- .. that is not refused
+abbrev pub accessTo : List ℕ → FaultPair → List ℕ → List ℕ → List ℕ → List ℕ → List ℕ → ℕ → ℕ → ℕ → ℕ → List ℕ → AccessOut
+accessTo unit p ps ls cs ram rom address kind enables word reply =
+    accessBy unit reply (accessTaken (accessOf (registersOf unit) p ps ls cs ram rom (accessAs address kind enables word)))
 
 abbrev pub accessExport : List ℕ → FaultPair → List ℕ → List ℕ → List ℕ → List ℕ → List ℕ → ℕ → ℕ → ℕ → ℕ → List ℕ → AccessOut
 accessExport unit p ps ls cs ram rom address kind enables word reply =
@@ -99,34 +98,3 @@ writeBy unit reply d =
 abbrev pub writeExport : List ℕ → FaultPair → List ℕ → List ℕ → List ℕ → List ℕ → List ℕ → ℕ → ℕ → List ℕ → WriteOut
 writeExport unit p ps ls cs ram rom offset value reply =
     writeBy unit reply (writeCall (registersOf unit) p ps ls cs ram rom offset value)
-
--- ---- reset and restoring
-
-pub record UnitOut : Type 0 where
-  pub number : ℕ
-  pub unit : List ℕ
-  pub fault : FaultPair
-  pub patc : List ℕ
-  pub lines : List ℕ
-  pub cells : List ℕ
-
-abbrev pub unitOut : ℕ → List ℕ → FaultPair → List ℕ → List ℕ → List ℕ → UnitOut
-unitOut n unit p ps ls cs = record { number = n; unit = unit; fault = p; patc = ps; lines = ls; cells = cs }
-
-unfoldable pub unitBy : List ℕ → UnitDone → UnitOut
-unitBy unit d =
-    unitOut (d .number) (unless (d .number) unit (unitOf (d .unit .registers))) (d .unit .pair) (d .unit .patc) (d .unit .lines) (d .unit .cells)
-
-abbrev pub chipOf : List ℕ → FaultPair → List ℕ → List ℕ → List ℕ → Chip
-chipOf unit p ps ls cs = chip (registersOf unit) p ps ls cs
-
-abbrev pub resetExport : List ℕ → FaultPair → List ℕ → List ℕ → List ℕ → ℕ → UnitOut
-resetExport unit p ps ls cs number = unitBy unit (resetCall (chipOf unit p ps ls cs) number)
-
-abbrev pub restoreExport : List ℕ → FaultPair → List ℕ → List ℕ → List ℕ → List ℕ → UnitOut
-restoreExport unit p ps ls cs image = unitBy unit (restoreCall (chipOf unit p ps ls cs) image)
-
--- ---- saving
-
-abbrev pub saveExport : List ℕ → FaultPair → List ℕ → List ℕ → List ℕ → List ℕ → Saved
-saveExport unit p ps ls cs out = saveCall (chipOf unit p ps ls cs) out

@@ -20,7 +20,7 @@ use Rattle.refusals.specs.Refusals.{accessRefusal}
 use Rattle.calls.specs.Calls.{accessTaken, accessBy as doneBy}
 use Rattle.layout.specs.Layout.{registersOf, unitOf, accessAs, bitsOf, replyOf, unit-kept}
 use Rattle.quick.specs.Quick.{plainAccess, quickOf, plainReply, wordReply, writtenReply, linesAfter, cellsAfter, replyAfter}
-use Rattle.exports.specs.Exports.{AccessOut, accessOut, accessBy, accessExport}
+use Rattle.exports.specs.Exports.{AccessOut, accessOut, accessBy, accessTo, accessExport}
 
 module _ (u : Registers) (p : FaultPair) (ps ls cs ram rom : List ℕ) (a : Access) where
   pub answered : (unit reply : List ℕ) (h : Hit)
@@ -32,6 +32,13 @@ module _ (u : Registers) (p : FaultPair) (ps ls cs ram rom : List ℕ) (a : Acce
       → accessBy unit reply (accessTaken (writtenAt u p ps ls cs ram rom a h)) ≡ accessOut 0 (unitOf u) p ps (usedAt (marked ls (h .place) 1) (h .place)) (mergedAt cs (h .place) (h .address) (a .enables) (a .word)) ram writtenReply
   unfolding accessBy plainOf replyOf bitsOf plainReply
   stored unit reply h = refl
+
+-- what is not refused is taken
+pub call-taken : (unit : List ℕ) (p : FaultPair) (ps ls cs ram rom : List ℕ) (address kind enables word : ℕ) (reply : List ℕ)
+    → accessRefusal (length ram) (length rom) (length cs) address enables ≡ 0
+    → accessTo unit p ps ls cs ram rom address kind enables word reply ≡ accessExport unit p ps ls cs ram rom address kind enables word reply
+unfolding doneBy accessAs
+call-taken unit p ps ls cs ram rom address kind enables word reply taken = rw taken
 
 three : (w x y : Bool) → (not w && not x && not y) ≡ true → (w ≡ false) × (x ≡ false) × (y ≡ false)
 three true x y e = absurd (false≢true e)
@@ -55,13 +62,9 @@ module _ (unit : List ℕ) (p : FaultPair) (ps ls cs ram rom : List ℕ) (addres
       let f = three _ _ _ e in
       rw (e) (ap accessTaken (look-right (registersOf unit) p ps ls cs ram rom asked (f .1) (f .0) (f .2) (rw (e) at l)))
 
-  call-taken : accessExport unit p ps ls cs ram rom address kind enables word reply ≡ accessBy unit reply (accessTaken (accessOf (registersOf unit) p ps ls cs ram rom asked))
-  unfolding doneBy accessAs
-  call-taken = rw (taken)
-
   call-quick : quick .place < 1024
       → accessExport unit p ps ls cs ram rom address kind enables word reply ≡ accessBy unit reply (accessTaken (touchedAt (registersOf unit) p ps ls cs ram rom asked quick))
-  call-quick l = call-taken ∙ ap (accessBy unit reply) (quick-by (plainAccess address kind enables) refl l)
+  call-quick l = sym (call-taken unit p ps ls cs ram rom address kind enables word reply taken) ∙ ap (accessBy unit reply) (quick-by (plainAccess address kind enables) refl l)
 
   abbrev answerBy : Bool → AccessOut
   answerBy b =

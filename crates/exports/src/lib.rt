@@ -1,44 +1,30 @@
 // The C functions with the fault pair by value.
 
-use calls::AccessCall;
+use answers::Accessed;
 use calls::WriteCall;
-use starts::UnitCall;
+use lent::Called;
+use lent::Numbered;
 use state::FaultPair;
 ghost use mathlib.Core.Path.{_≡_};
 ghost use mathlib.Core.List.{[], _∷_};
-ghost use Rattle.saved.specs.Image.{saved};
+ghost use lib.ListN.{length};
+ghost use Rattle.lent.specs.Lent.{unless};
 ghost use Rattle.layout.specs.Layout.{unitOf, replyOf};
-ghost use Rattle.exports.specs.Exports.{unless, accessOut, accessExport, snoopOut, snoopExport, readOut, readExport, writeOut, writeExport, unitOut, resetExport, restoreExport, saveExport};
+ghost use Rattle.exports.specs.Exports.{accessOut, accessTo, accessExport, snoopOut, snoopExport, readOut, readExport, writeOut, writeExport};
 
-// What a call answers, and the fault pair that it leaves.
-pub struct Called {
-    pub pair: FaultPair,
-    pub number: u32,
-}
-
-// .. of a call that leaves the pair alone.
-pub struct Numbered {
-    pub number: u32,
-}
-
-// Unit and reply, unless the access was refused.
-fn access_answer(unit: &mut [u32; 16], reply: &mut [u32; 24], c: AccessCall) -> Called
-    ensures { λ r. ⌜ (r .number ≡ c .reply .number) × (r .pair ≡ c .pair) × (now (unit .exit) ≡ unless (c .reply .number) (now (unit .entry)) (unitOf (c .reply .registers))) × (now (reply .exit) ≡ unless (c .reply .number) (now (reply .entry)) (replyOf (c .reply .answer))) ⌝ }
+// Unit and reply, as an access leaves them.
+fn access_answer(unit: &mut [u32; 16], reply: &mut [u32; 24], a: Accessed) -> Called
+    ensures { λ r. ⌜ (r .number ≡ 0) × (r .pair ≡ a .pair) × (now (unit .exit) ≡ unitOf (a .registers)) × (now (reply .exit) ≡ replyOf (a .answer)) ⌝ }
 {
-    let r = c.reply;
-    let pair = c.pair;
-    let number = r.number;
-    if number != 0 {
-        return Called { pair, number };
-    }
-    let u = r.registers;
-    let answer = r.answer;
+    let u = a.registers;
+    let answer = a.answer;
+    let pair = a.pair;
     layout::put_registers(unit, u);
     layout::put_answer(reply, answer);
-    Called { pair, number }
+    Called { pair, number: 0 }
 }
 
-// Any access, by the door.
+// Any access that is not refused, by the unit.
 fn any_access(
     unit: &mut [u32; 16],
     pair: FaultPair,
@@ -53,12 +39,13 @@ fn any_access(
     word: u32,
     reply: &mut [u32; 24],
 ) -> Called
-    ensures { λ r. ⌜ accessOut (r .number) (now (unit .exit)) (r .pair) (now (patc .exit)) (now (lines .exit)) (now (cells .exit)) (now (ram .exit)) (now (reply .exit)) ≡ accessExport (now (unit .entry)) pair (now (patc .entry)) (now (lines .entry)) (now (cells .entry)) (now (ram .entry)) (now (rom .entry)) address kind enables word (now (reply .entry)) ⌝ }
+    requires { ⌜ length (now cells) ≡ 4096 ⌝ }
+    ensures { λ r. ⌜ accessOut (r .number) (now (unit .exit)) (r .pair) (now (patc .exit)) (now (lines .exit)) (now (cells .exit)) (now (ram .exit)) (now (reply .exit)) ≡ accessTo (now (unit .entry)) pair (now (patc .entry)) (now (lines .entry)) (now (cells .entry)) (now (ram .entry)) (now (rom .entry)) address kind enables word (now (reply .entry)) ⌝ }
 {
     let u = layout::registers(unit);
     let a = layout::access(address, kind, enables, word);
-    let c = calls::access(u, pair, patc, lines, cells, ram, rom, a);
-    access_answer(unit, reply, c)
+    let answered = unit::access(u, pair, patc, lines, cells, ram, rom, a);
+    access_answer(unit, reply, answered)
 }
 
 // One access; one that only touches a line is answered at once.
@@ -186,65 +173,4 @@ pub fn write_register(
     let u = layout::registers(unit);
     let c = calls::write_register(u, pair, patc, lines, cells, ram, rom, offset, value);
     write_answer(unit, reply, c)
-}
-
-// The unit, unless reset or restoring was refused.
-fn unit_answer(unit: &mut [u32; 16], c: UnitCall) -> Called
-    ensures { λ r. ⌜ (r .number ≡ c .reply .number) × (r .pair ≡ c .pair) × (now (unit .exit) ≡ unless (c .reply .number) (now (unit .entry)) (unitOf (c .reply .registers))) ⌝ }
-{
-    let r = c.reply;
-    let pair = c.pair;
-    let number = r.number;
-    if number != 0 {
-        return Called { pair, number };
-    }
-    let u = r.registers;
-    layout::put_registers(unit, u);
-    Called { pair, number }
-}
-
-pub fn reset(
-    unit: &mut [u32; 16],
-    pair: FaultPair,
-    patc: &mut [u32; 112],
-    lines: &mut [u32; 1280],
-    cells: &mut [u32],
-    number: u8,
-) -> Called
-    ensures { λ r. ⌜ unitOut (r .number) (now (unit .exit)) (r .pair) (now (patc .exit)) (now (lines .exit)) (now (cells .exit)) ≡ resetExport (now (unit .entry)) pair (now (patc .entry)) (now (lines .entry)) (now (cells .entry)) number ⌝ }
-{
-    let u = layout::registers(unit);
-    let c = starts::reset(u, pair, patc, lines, cells, number);
-    unit_answer(unit, c)
-}
-
-pub fn restore(
-    unit: &mut [u32; 16],
-    pair: FaultPair,
-    patc: &mut [u32; 112],
-    lines: &mut [u32; 1280],
-    cells: &mut [u32],
-    image: &[u8],
-) -> Called
-    ensures { λ r. ⌜ unitOut (r .number) (now (unit .exit)) (r .pair) (now (patc .exit)) (now (lines .exit)) (now (cells .exit)) ≡ restoreExport (now (unit .entry)) pair (now (patc .entry)) (now (lines .entry)) (now (cells .entry)) (now (image .entry)) ⌝ }
-{
-    let u = layout::registers(unit);
-    let c = starts::restore(u, pair, patc, lines, cells, image);
-    unit_answer(unit, c)
-}
-
-pub fn save(
-    unit: &[u32; 16],
-    pair: FaultPair,
-    patc: &[u32; 112],
-    lines: &[u32; 1280],
-    cells: &[u32],
-    out: &mut [u8],
-) -> Numbered
-    ensures { λ r. ⌜ saved (r .number) (now (out .exit)) ≡ saveExport (now (unit .entry)) pair (now (patc .entry)) (now (lines .entry)) (now (cells .entry)) (now (out .entry)) ⌝ }
-{
-    let u = layout::registers(unit);
-    let r = starts::save(u, pair, patc, lines, cells, out);
-    let number = r.number;
-    Numbered { number }
 }

@@ -2,7 +2,8 @@
 use state::FaultPair;
 ghost use mathlib.Core.Path.{_≡_};
 ghost use Rattle.saved.specs.Image.{saved};
-ghost use Rattle.exports.specs.Exports.{accessOut, accessExport, snoopOut, snoopExport, readOut, readExport, writeOut, writeExport, unitOut, resetExport, restoreExport, saveExport};
+ghost use Rattle.restarts.specs.Restarts.{unitOut, resetExport, restoreExport, saveExport};
+ghost use Rattle.exports.specs.Exports.{accessOut, accessExport, snoopOut, snoopExport, readOut, readExport, writeOut, writeExport};
 
 #[no_mangle]
 pub extern "C" fn mc88200_reset(
@@ -15,7 +16,7 @@ pub extern "C" fn mc88200_reset(
 ) -> u32
     ensures { λ r. ⌜ unitOut r (now (unit .exit)) (now (fault .exit)) (now (patc .exit)) (now (lines .exit)) (now (cells .exit)) ≡ resetExport (now (unit .entry)) (now (fault .entry)) (now (patc .entry)) (now (lines .entry)) (now (cells .entry)) number ⌝ }
 {
-    let r = exports::reset(unit, *fault, patc, lines, cells, number);
+    let r = restarts::reset(unit, *fault, patc, lines, cells, number);
     lent::store(fault, r.pair.status, r.pair.address);
     r.number
 }
@@ -125,7 +126,7 @@ pub extern "C" fn mc88200_save(
 ) -> u32
     ensures { λ r. ⌜ saved r (now (out .exit)) ≡ saveExport (now (unit .entry)) (now (fault .entry)) (now (patc .entry)) (now (lines .entry)) (now (cells .entry)) (now (out .entry)) ⌝ }
 {
-    let r = exports::save(unit, *fault, patc, lines, cells, out);
+    let r = restarts::save(unit, *fault, patc, lines, cells, out);
     r.number
 }
 
@@ -140,7 +141,7 @@ pub extern "C" fn mc88200_restore(
 ) -> u32
     ensures { λ r. ⌜ unitOut r (now (unit .exit)) (now (fault .exit)) (now (patc .exit)) (now (lines .exit)) (now (cells .exit)) ≡ restoreExport (now (unit .entry)) (now (fault .entry)) (now (patc .entry)) (now (lines .entry)) (now (cells .entry)) (now (image .entry)) ⌝ }
 {
-    let r = exports::restore(unit, *fault, patc, lines, cells, image);
+    let r = restarts::restore(unit, *fault, patc, lines, cells, image);
     lent::store(fault, r.pair.status, r.pair.address);
     r.number
 }

@@ -33,7 +33,8 @@ use Rattle.driver.specs.Alone.{memory}
 use Rattle.registers.specs.Registers.{areaOf, withScr}
 use Rattle.commands.specs.Commands.{Commanded, commandOf, flushOf, runOf}
 use Rattle.answers.specs.Answers.{faultOf, plainOf, failedOf, writtenOf}
-use Rattle.unit.specs.Unit.{Kept, writeOf, Controlled, reachesOf, controlOf, Whole, mappedOf, accessOf, afterSnoop, snoopOf}
+use Rattle.control.specs.Control.{Kept, writeOf, Controlled, reachesOf, controlOf}
+use Rattle.unit.specs.Unit.{Whole, mappedOf, accessOf, afterSnoop, snoopOf}
 use Rattle.fields.specs.Fields.{Words}
 use Rattle.reached.specs.Good.{GoodRegisters, GoodPair, GoodEntries, GoodLines, GoodCells}
 use Rattle.reached.specs.Directory.{marked-good, dropped-good, hit-of}

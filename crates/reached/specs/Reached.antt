@@ -7,7 +7,8 @@ use lib.ListN.{length}
 use Rattle.state.specs.declared.Access.{Access}
 use Rattle.state.specs.Reset.{resetOf, noFault}
 use Rattle.fresh.specs.Fresh.{clearedOf, freshLines}
-use Rattle.unit.specs.Unit.{Kept, writeOf, Whole, accessOf, Snooping, snoopOf}
+use Rattle.control.specs.Control.{Kept, writeOf}
+use Rattle.unit.specs.Unit.{Whole, accessOf, Snooping, snoopOf}
 use Rattle.fields.specs.Fields.{Bytes, Words}
 use Rattle.saved.specs.Chip.{Chip, chip}
 use Rattle.saved.specs.Image.{imageOf, readOf}

@@ -15,7 +15,8 @@ use Rattle.lines.specs.Lines.{setOf, cellOf, victimOf}
 use Rattle.pages.specs.Pages.{segmentAt, pageAt, portHits, portOf, blockOf, combinedOf, protectionOf}
 use Rattle.registers.specs.Registers.{readOf as registerOf}
 use Rattle.answers.specs.Answers.{plainOf, failedOf}
-use Rattle.unit.specs.Unit.{controlOf, accessOf}
+use Rattle.control.specs.Control.{controlOf}
+use Rattle.unit.specs.Unit.{accessOf}
 
 -- a row: its number in document 01, what the definitions give, and what document 01 says
 pub record Row : Type 0 where

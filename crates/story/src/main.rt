@@ -80,7 +80,7 @@ fn register(
 ) -> Registers {
     let rom = [0u32; 4];
     let pair = state::no_fault();
-    let s = unit::write_register(u, pair, patc, lines, cells, ram, &rom, offset, value);
+    let s = control::write_register(u, pair, patc, lines, cells, ram, &rom, offset, value);
     s.registers
 }
 

@@ -7,9 +7,9 @@ use Rattle.lent.proofs.Door.{stayed, ends, meets, Returned}
 use Rattle.state.specs.declared.FaultPair.{FaultPair as FaultPairR}
 use Rattle.state.proofs.FaultPair as FaultPair
 use Rattle.state.proofs.FaultPair.Laws as FaultPair′
-use Rattle.exports.specs.declared.Numbered.{Numbered as NumberedR}
-use Rattle.exports.proofs.Numbered as Numbered
-use Rattle.exports.proofs.Numbered.Laws as Numbered′
+use Rattle.lent.specs.declared.Numbered.{Numbered as NumberedR}
+use Rattle.lent.proofs.Numbered as Numbered
+use Rattle.lent.proofs.Numbered.Laws as Numbered′
 use Rattle.exports.specs.Exports.{readOut, readExport}
 use Rattle.exports.proofs.read_register as core
 use Rattle.exports.proofs.read_register.Symbol as core-def

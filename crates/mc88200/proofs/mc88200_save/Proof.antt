@@ -7,15 +7,15 @@ use Rattle.lent.proofs.Door.{stayed, ends, meets, Returned}
 use Rattle.state.specs.declared.FaultPair.{FaultPair as FaultPairR}
 use Rattle.state.proofs.FaultPair as FaultPair
 use Rattle.state.proofs.FaultPair.Laws as FaultPair′
-use Rattle.exports.specs.declared.Numbered.{Numbered as NumberedR}
-use Rattle.exports.proofs.Numbered as Numbered
-use Rattle.exports.proofs.Numbered.Laws as Numbered′
-use Rattle.exports.specs.Exports.{saveExport}
+use Rattle.lent.specs.declared.Numbered.{Numbered as NumberedR}
+use Rattle.lent.proofs.Numbered as Numbered
+use Rattle.lent.proofs.Numbered.Laws as Numbered′
+use Rattle.restarts.specs.Restarts.{saveExport}
 use Rattle.saved.specs.Image.{saved}
-use Rattle.exports.proofs.save as core
-use Rattle.exports.proofs.save.Symbol as core-def
-use Rattle.exports.proofs.save.Symbol.{name as #core}
-use Rattle.exports.proofs.save.Met as core-thm
+use Rattle.restarts.proofs.save as core
+use Rattle.restarts.proofs.save.Symbol as core-def
+use Rattle.restarts.proofs.save.Symbol.{name as #core}
+use Rattle.restarts.proofs.save.Met as core-thm
 use Rattle.mc88200.proofs.mc88200_save.Key.{name as #door}
 use Rattle.mc88200.proofs.mc88200_save as f
 use Rattle.mc88200.proofs.mc88200_save.Statement as stated
@@ -90,4 +90,4 @@ mc88200-save-spec 𝓤 H 𝓜 𝓖 𝓡 =
     entered 𝓤 H (tripleOf 𝓤 H (𝓖 .A) f.signature (f.spec 𝓤 H (𝓖 .A) (𝓜 .mem) (𝓡 .run)))
     (tables 𝓤 H 𝓜 𝓡 code.env .C) (tables 𝓤 H 𝓜 𝓡 code.env .Λ) #door code.function (code.unfolded 𝓤 H 𝓜 𝓡)
     (mc88200-save-meets 𝓤 H (𝓖 .A) (givenOf 𝓤 H 𝓜 𝓖) (𝓜 .mem) (𝓡 .run) (tablesOf 𝓤 H 𝓜 (tables 𝓤 H 𝓜 𝓡 code.env))
-    (cited 𝓤 H (CoreC 𝓤 H (𝓖 .A) (𝓜 .mem) (𝓡 .run)) 𝓜 𝓡 code.env #core core-def.routine code.calls-exports·save (core-thm.met 𝓤 H 𝓜 𝓖 𝓡)))
+    (cited 𝓤 H (CoreC 𝓤 H (𝓖 .A) (𝓜 .mem) (𝓡 .run)) 𝓜 𝓡 code.env #core core-def.routine code.calls-restarts·save (core-thm.met 𝓤 H 𝓜 𝓖 𝓡)))

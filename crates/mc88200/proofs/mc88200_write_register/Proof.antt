@@ -7,9 +7,9 @@ use Rattle.lent.proofs.Door.{stayed, ends, meets, Returned}
 use Rattle.state.specs.declared.FaultPair.{FaultPair as FaultPairR}
 use Rattle.state.proofs.FaultPair as FaultPair
 use Rattle.state.proofs.FaultPair.Laws as FaultPair′
-use Rattle.exports.specs.declared.Called.{Called as CalledR}
-use Rattle.exports.proofs.Called as Called
-use Rattle.exports.proofs.Called.Laws as Called′
+use Rattle.lent.specs.declared.Called.{Called as CalledR}
+use Rattle.lent.proofs.Called as Called
+use Rattle.lent.proofs.Called.Laws as Called′
 use Rattle.exports.specs.Exports.{writeOut, writeExport}
 use Rattle.lent.specs.Lent.{pairWith}
 use Rattle.exports.proofs.write_register as core

@@ -1,7 +1,7 @@
 use borrow.Author.Needs.{needs}
-use Rattle.unit.proofs.control.Statement.{statement}
-use Rattle.unit.specs.Unit.{controlOf}
-use Rattle.unit.proofs.control.Tie as tie
+use Rattle.control.proofs.control.Statement.{statement}
+use Rattle.control.specs.Control.{controlOf}
+use Rattle.control.proofs.control.Tie as tie
 
 returns : tie.Need-returns
 unfolding controlOf

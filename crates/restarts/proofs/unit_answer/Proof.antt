@@ -1,8 +1,8 @@
 use borrow.Author.Needs.{needs}
-use Rattle.exports.proofs.unit_answer.Statement.{statement}
+use Rattle.restarts.proofs.unit_answer.Statement.{statement}
 use mathlib.Core.Path.{refl}
 use borrow.Author.Tests.{eq-eqb, ne-eqb}
-use Rattle.exports.proofs.unit_answer.Tie as tie
+use Rattle.restarts.proofs.unit_answer.Tie as tie
 
 returns : tie.Need-returns
 returns c = (refl, refl, rw (ne-eqb _ _ (c .if1 .taken)))

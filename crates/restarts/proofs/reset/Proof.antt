@@ -1,7 +1,7 @@
 use borrow.Author.Needs.{needs}
-use Rattle.exports.proofs.reset.Statement.{statement}
-use Rattle.exports.specs.Exports.{unitBy}
-use Rattle.exports.proofs.reset.Tie as tie
+use Rattle.restarts.proofs.reset.Statement.{statement}
+use Rattle.restarts.specs.Restarts.{unitBy}
+use Rattle.restarts.proofs.reset.Tie as tie
 
 returns : tie.Need-returns
 unfolding unitBy

@@ -1,8 +1,8 @@
 use borrow.Author.Needs.{needs}
-use Rattle.unit.proofs.write_register.Statement.{statement}
-use Rattle.unit.specs.Unit.{writeOf}
+use Rattle.control.proofs.write_register.Statement.{statement}
+use Rattle.control.specs.Control.{writeOf}
 use borrow.Author.Tests.{ne-eqb}
-use Rattle.unit.proofs.write_register.Tie as tie
+use Rattle.control.proofs.write_register.Tie as tie
 
 returns : tie.Need-returns
 unfolding writeOf

@@ -1,6 +1,6 @@
 use borrow.Author.Needs.{needs}
-use Rattle.unit.proofs.reaches.Statement.{statement}
-use Rattle.unit.proofs.reaches.Tie as tie
+use Rattle.control.proofs.reaches.Statement.{statement}
+use Rattle.control.proofs.reaches.Tie as tie
 
 returns : tie.Need-returns
 returns c = rw (c .bits2 .ensures .0, c .before .bits .ensures .0)

@@ -1,6 +1,6 @@
 use borrow.Author.Needs.{needs}
-use Rattle.exports.proofs.save.Statement.{statement}
-use Rattle.exports.proofs.save.Tie as tie
+use Rattle.restarts.proofs.save.Statement.{statement}
+use Rattle.restarts.proofs.save.Tie as tie
 
 returns : tie.Need-returns
 returns c = rw (← c .before .before .before .before .registers .ensures) (c .before .before .save .ensures)

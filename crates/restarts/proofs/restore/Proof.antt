@@ -1,7 +1,7 @@
 use borrow.Author.Needs.{needs}
-use Rattle.exports.proofs.restore.Statement.{statement}
-use Rattle.exports.specs.Exports.{unitBy}
-use Rattle.exports.proofs.restore.Tie as tie
+use Rattle.restarts.proofs.restore.Statement.{statement}
+use Rattle.restarts.specs.Restarts.{unitBy}
+use Rattle.restarts.proofs.restore.Tie as tie
 
 returns : tie.Need-returns
 unfolding unitBy
