@@ -1,4 +1,6 @@
 // What a flight carries from one transaction to the next, and how it goes on or ends.
+pub mod next;
+
 use memory::Moved;
 use pages::Translation;
 use state::Access;

@@ -8,7 +8,8 @@ use Rattle.lookup.specs.declared.Lookup.the-variants.{Found, Violation, Search}
 use Rattle.lookup.specs.Lookup.{placeOf, judgeOf}
 use Rattle.course.specs.declared.Course.{Course}
 use Rattle.course.specs.Course.{freshOf, withTranslation, endedOf}
-use Rattle.cache.specs.Cache.{Cached, cached, enterOf}
+use Rattle.course.specs.Next.{Cached, cached}
+use Rattle.cache.specs.Cache.{enterOf}
 use Rattle.flight.specs.Search.{startOf}
 
 -- go on with the translation, end in a fault, or search

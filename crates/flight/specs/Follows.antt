@@ -21,11 +21,14 @@ use Rattle.course.specs.declared.Course.{Course}
 use Rattle.course.specs.declared.Flight.{Flight}
 use Rattle.course.specs.declared.Stage.the-variants.{Done}
 use Rattle.course.specs.Course.{freshOf, withWant, withTranslation, withPlace, withEntry, withDescriptor, withPointer, listedOf, searchedOf, carriedOf}
+use Rattle.course.specs.Next
 use Rattle.cache.specs.Cache
 use Rattle.flight.specs.Search
 use Rattle.flight.specs.Begin
 use Rattle.flight.specs.Steps
-use Rattle.cache.specs.Cache.{Lined, Cached, inhibitedOf, singleOf, storingOf, fillingOf, backingOf, droppingOf, uncachedOf, readHitOf, writeLineOf, writeHitOf, missOf, enterAt, enterOf, settledOf, backOf, dropOf, fillOf, storeOf, wordOf}
+use Rattle.course.specs.Next.{Lined, Cached, singleOf, storingOf, fillingOf, backingOf, droppingOf, readHitOf}
+use Rattle.cache.specs.Cache.{inhibitedOf, uncachedOf, writeLineOf, writeHitOf, missOf, enterAt, enterOf}
+use Rattle.after.specs.After.{settledOf, backOf, dropOf, fillOf, storeOf, wordOf}
 use Rattle.flight.specs.Search.{Flown, startOf, segmentOf, updatingOf, loadedOf, walkOf, pageOf, updateOf}
 use Rattle.flight.specs.Begin.{goOf, beginOf}
 use Rattle.flight.specs.Ops.{Got, Shown, Sent, Ops, System, system, onFlown, onCached, onLined, turnAt, turnOf, leftOf, segmentTurn, pageTurn, updateTurn, dropTurn, backTurn, fillTurn, storeTurn, sentTurn, gotTurn}
@@ -71,7 +74,7 @@ module _ {W : Type 0} (ops : Ops W) where
     store-follows n c ls cs w = store-end n _ ls cs w _
 
     read-follows : (n : ℕ) (c : Course) (p : ℕ) (ls cs : List ℕ) (w : W)
-        → endOf (leftOf ops n (onCached (Cache.withCells (readHitOf c p ls cs) cs) ps w)) ≡ Steps.readOf ops (c .access) (sceneOf c ps ls cs w) (c .t) p
+        → endOf (leftOf ops n (onCached (Next.withCells (readHitOf c p ls cs) cs) ps w)) ≡ Steps.readOf ops (c .access) (sceneOf c ps ls cs w) (c .t) p
     unfolding readHitOf Steps.readOf
     read-follows n c p ls cs w = ap endOf (stays n _ refl)
 
@@ -122,11 +125,11 @@ module _ {W : Type 0} (ops : Ops W) where
         split (λ x. endOf (leftOf ops (suc n) (onLined x ps cs (r .world)))) (r .moved .ok) (single-follows n _ _ _ _) (ap endOf (stays (suc n) _ refl))
 
     inhibited-follows : (n : ℕ) (c : Course) (p : ℕ) (ls cs : List ℕ) (w : W)
-        → endOf (leftOf ops (suc (suc n)) (onCached (Cache.withCells (uncachedOf c p ls) cs) ps w)) ≡ Steps.inhibitedOf ops (c .access) (sceneOf c ps ls cs w) (c .t) p
+        → endOf (leftOf ops (suc (suc n)) (onCached (Next.withCells (uncachedOf c p ls) cs) ps w)) ≡ Steps.inhibitedOf ops (c .access) (sceneOf c ps ls cs w) (c .t) p
     unfolding leftOf turnOf turnAt uncachedOf droppingOf Steps.inhibitedOf withWant withPlace carriedOf
     inhibited-follows n c p ls cs w =
-        split (λ x. endOf (leftOf ops (suc (suc n)) (onCached (Cache.withCells x cs) ps w))) (ltb p 1024)
-        (split (λ x. endOf (leftOf ops (suc (suc n)) (onCached (Cache.withCells x cs) ps w))) (modified (tagWord ls p)) (drop-end n _ ls cs w _) (single-follows (suc n) c _ cs w))
+        split (λ x. endOf (leftOf ops (suc (suc n)) (onCached (Next.withCells x cs) ps w))) (ltb p 1024)
+        (split (λ x. endOf (leftOf ops (suc (suc n)) (onCached (Next.withCells x cs) ps w))) (modified (tagWord ls p)) (drop-end n _ ls cs w _) (single-follows (suc n) c _ cs w))
         (single-follows (suc n) c ls cs w)
 
     write-follows : (n : ℕ) (c : Course) (p : ℕ) (ls cs : List ℕ) (w : W)

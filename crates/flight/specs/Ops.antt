@@ -11,7 +11,8 @@ use Rattle.course.specs.declared.Course.{Course}
 use Rattle.course.specs.declared.Flight.{Flight}
 use Rattle.course.specs.declared.Stage.{Stage}
 use Rattle.course.specs.declared.Stage.the-variants.{Done, Segment, Page, Update, Drop, Back, Fill, Store, Single}
-use Rattle.cache.specs.Cache.{Lined, Cached, backOf, dropOf, fillOf, storeOf, wordOf}
+use Rattle.course.specs.Next.{Lined, Cached}
+use Rattle.after.specs.After.{backOf, dropOf, fillOf, storeOf, wordOf}
 use Rattle.flight.specs.Search.{Flown, segmentOf, pageOf, updateOf}
 
 -- what a transaction gives, and the world after it

@@ -17,7 +17,8 @@ use Rattle.course.specs.declared.Course.{Course}
 use Rattle.course.specs.declared.Flight.{Flight}
 use Rattle.course.specs.declared.Stage.the-variants.{Segment, Page, Update}
 use Rattle.course.specs.Course.{withWant, withEntry, withDescriptor, withTranslation, withPointer, listedOf, wantingOf, endedOf, failedOf, searchedOf}
-use Rattle.cache.specs.Cache.{Cached, enterOf}
+use Rattle.course.specs.Next.{Cached}
+use Rattle.cache.specs.Cache.{enterOf}
 
 -- a flight with all that it may change of its unit
 pub record Flown : Type 0 where

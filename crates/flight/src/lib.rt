@@ -9,7 +9,7 @@ use state::Outcome;
 ghost use mathlib.Core.Path.{_≡_};
 ghost use Prim.Native.Nat.{_<_};
 ghost use lib.ListN.{length};
-ghost use Rattle.cache.specs.Cache.{cached};
+ghost use Rattle.course.specs.Next.{cached};
 ghost use Rattle.flight.specs.Begin.{goOf, beginOf};
 
 // Goes on with the translation, ends in a fault, or searches the tables.

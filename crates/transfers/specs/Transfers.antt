@@ -8,7 +8,8 @@ use Rattle.course.specs.declared.Course.{Course}
 use Rattle.course.specs.declared.Flight.{Flight}
 use Rattle.course.specs.declared.Stage.{Stage}
 use Rattle.course.specs.declared.Stage.the-variants.{Done, Segment, Page, Update, Drop, Back, Fill, Store, Single}
-use Rattle.cache.specs.Cache.{Cached, dropOf, backOf, fillOf, storeOf, wordOf}
+use Rattle.course.specs.Next.{Cached}
+use Rattle.after.specs.After.{dropOf, backOf, fillOf, storeOf, wordOf}
 
 -- a flight with RAM
 pub record FlownTo : Type 0 where

@@ -7,7 +7,8 @@ ghost use Prim.Native.Nat.{_<_};
 ghost use lib.ListN.{length};
 ghost use Rattle.memory.specs.Memory.{partOf, shownOf, writeWordOf, writeLineOf};
 ghost use Rattle.lines.specs.Lines.{lineWords};
-ghost use Rattle.cache.specs.Cache.{lined, cached, dropOf, backOf, fillOf, storeOf};
+ghost use Rattle.course.specs.Next.{lined, cached};
+ghost use Rattle.after.specs.After.{dropOf, backOf, fillOf, storeOf};
 ghost use Rattle.transfers.specs.Transfers.{flownTo, singleBy, carried, transferOf};
 
 fn drop(c: Course, lines: &mut [u32; 1280], cells: &[u32], ram: &mut [u32]) -> Flight
@@ -16,7 +17,7 @@ fn drop(c: Course, lines: &mut [u32; 1280], cells: &[u32], ram: &mut [u32]) -> F
 {
     let part = lines::line_words(cells, c.place);
     let moved = memory::write_line(ram, c.want.address, part);
-    cache::take_drop(c, lines, moved)
+    after::take_drop(c, lines, moved)
 }
 
 fn back(c: Course, cells: &[u32], ram: &mut [u32]) -> Flight
@@ -25,7 +26,7 @@ fn back(c: Course, cells: &[u32], ram: &mut [u32]) -> Flight
 {
     let part = lines::line_words(cells, c.place);
     let moved = memory::write_line(ram, c.want.address, part);
-    cache::take_back(c, moved)
+    after::take_back(c, moved)
 }
 
 fn fill<'a>(
@@ -40,7 +41,7 @@ fn fill<'a>(
 {
     let part = memory::line(ram, rom, c.want.address);
     let moved = memory::shown(part, c.want.address);
-    cache::take_fill(c, lines, cells, part, moved)
+    after::take_fill(c, lines, cells, part, moved)
 }
 
 fn store(c: Course, lines: &mut [u32; 1280], cells: &mut [u32], ram: &mut [u32]) -> Flight
@@ -49,7 +50,7 @@ fn store(c: Course, lines: &mut [u32; 1280], cells: &mut [u32], ram: &mut [u32])
 {
     let a = c.access;
     let moved = memory::write_word(ram, c.want.address, a.enables, a.word);
-    cache::take_store(c, lines, cells, moved)
+    after::take_store(c, lines, cells, moved)
 }
 
 fn single(c: Course, ram: &mut [u32], rom: &[u32]) -> Flight
@@ -59,11 +60,11 @@ fn single(c: Course, ram: &mut [u32], rom: &[u32]) -> Flight
     let a = c.access;
     if a.write {
         let moved = memory::write_word(ram, c.want.address, a.enables, a.word);
-        return cache::take_single(c, moved, 0);
+        return after::take_single(c, moved, 0);
     }
     let read = memory::read_word(ram, rom, c.want.address);
     let moved = read.moved;
-    cache::take_single(c, moved, read.word)
+    after::take_single(c, moved, read.word)
 }
 
 // The transaction that the cache wants; one of a search is left alone.

@@ -6,7 +6,7 @@ use Rattle.state.specs.declared.Access.{Access}
 use Rattle.state.specs.declared.Registers.{Registers}
 use Rattle.state.specs.declared.FaultPair.{FaultPair}
 use Rattle.course.specs.declared.Flight.{Flight}
-use Rattle.cache.specs.Cache.{Cached, cached}
+use Rattle.course.specs.Next.{Cached, cached}
 use Rattle.flight.specs.Begin.{beginOf}
 use Rattle.flight.specs.Ops.{System, system, onCached, leftOf}
 use Rattle.flight.specs.Follows.{endOf, follows}

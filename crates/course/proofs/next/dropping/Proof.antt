@@ -1,7 +1,7 @@
 use borrow.Author.Needs.{needs}
-use Rattle.cache.proofs.dropping.Statement.{statement}
-use Rattle.cache.specs.Cache.{droppingOf}
-use Rattle.cache.proofs.dropping.Tie as tie
+use Rattle.course.proofs.next.dropping.Statement.{statement}
+use Rattle.course.specs.Next.{droppingOf}
+use Rattle.course.proofs.next.dropping.Tie as tie
 
 returns : tie.Need-returns
 unfolding droppingOf

@@ -1,7 +1,7 @@
 use borrow.Author.Needs.{needs}
-use Rattle.cache.proofs.take_single.Statement.{statement}
-use Rattle.cache.specs.Cache.{wordOf}
-use Rattle.cache.proofs.take_single.Tie as tie
+use Rattle.after.proofs.take_single.Statement.{statement}
+use Rattle.after.specs.After.{wordOf}
+use Rattle.after.proofs.take_single.Tie as tie
 
 returns : tie.Need-returns
 unfolding wordOf

@@ -1,7 +1,7 @@
 use borrow.Author.Needs.{needs}
-use Rattle.cache.proofs.storing.Statement.{statement}
-use Rattle.cache.specs.Cache.{storingOf}
-use Rattle.cache.proofs.storing.Tie as tie
+use Rattle.course.proofs.next.storing.Statement.{statement}
+use Rattle.course.specs.Next.{storingOf}
+use Rattle.course.proofs.next.storing.Tie as tie
 
 returns : tie.Need-returns
 unfolding storingOf

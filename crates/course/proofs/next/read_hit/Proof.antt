@@ -1,7 +1,7 @@
 use borrow.Author.Needs.{needs}
-use Rattle.cache.proofs.read_hit.Statement.{statement}
-use Rattle.cache.specs.Cache.{readHitOf}
-use Rattle.cache.proofs.read_hit.Tie as tie
+use Rattle.course.proofs.next.read_hit.Statement.{statement}
+use Rattle.course.specs.Next.{readHitOf}
+use Rattle.course.proofs.next.read_hit.Tie as tie
 
 returns : tie.Need-returns
 unfolding readHitOf

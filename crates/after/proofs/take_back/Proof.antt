@@ -1,7 +1,7 @@
 use borrow.Author.Needs.{needs}
-use Rattle.cache.proofs.take_back.Statement.{statement}
-use Rattle.cache.specs.Cache.{backOf}
-use Rattle.cache.proofs.take_back.Tie as tie
+use Rattle.after.proofs.take_back.Statement.{statement}
+use Rattle.after.specs.After.{backOf}
+use Rattle.after.proofs.take_back.Tie as tie
 
 returns : tie.Need-returns
 unfolding backOf

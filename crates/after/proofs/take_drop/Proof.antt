@@ -1,7 +1,7 @@
 use borrow.Author.Needs.{needs}
-use Rattle.cache.proofs.take_drop.Statement.{statement}
-use Rattle.cache.specs.Cache.{dropOf}
-use Rattle.cache.proofs.take_drop.Tie as tie
+use Rattle.after.proofs.take_drop.Statement.{statement}
+use Rattle.after.specs.After.{dropOf}
+use Rattle.after.proofs.take_drop.Tie as tie
 
 returns : tie.Need-returns
 unfolding dropOf

@@ -1,11 +1,11 @@
 use borrow.Author.Needs.{needs}
-use Rattle.cache.proofs.take_fill.Statement.{statement}
-use Rattle.cache.specs.Cache.{fillOf}
+use Rattle.after.proofs.take_fill.Statement.{statement}
+use Rattle.after.specs.After.{fillOf}
 use Rattle.words.specs.Laws.{or-right}
 use borrow.Author.Tests.{ltb-false}
 use mathlib.Core.Bool.{not}
 use lib.ListN.{length}
-use Rattle.cache.proofs.take_fill.Tie as tie
+use Rattle.after.proofs.take_fill.Tie as tie
 
 returns : tie.Need-returns
 unfolding fillOf

@@ -1,7 +1,7 @@
 use borrow.Author.Needs.{needs}
-use Rattle.cache.proofs.filling.Statement.{statement}
-use Rattle.cache.specs.Cache.{fillingOf}
-use Rattle.cache.proofs.filling.Tie as tie
+use Rattle.course.proofs.next.filling.Statement.{statement}
+use Rattle.course.specs.Next.{fillingOf}
+use Rattle.course.proofs.next.filling.Tie as tie
 
 returns : tie.Need-returns
 unfolding fillingOf

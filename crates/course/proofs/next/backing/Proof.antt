@@ -1,7 +1,7 @@
 use borrow.Author.Needs.{needs}
-use Rattle.cache.proofs.backing.Statement.{statement}
-use Rattle.cache.specs.Cache.{backingOf}
-use Rattle.cache.proofs.backing.Tie as tie
+use Rattle.course.proofs.next.backing.Statement.{statement}
+use Rattle.course.specs.Next.{backingOf}
+use Rattle.course.proofs.next.backing.Tie as tie
 
 returns : tie.Need-returns
 unfolding backingOf

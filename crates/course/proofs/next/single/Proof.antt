@@ -1,7 +1,7 @@
 use borrow.Author.Needs.{needs}
-use Rattle.cache.proofs.single.Statement.{statement}
-use Rattle.cache.specs.Cache.{singleOf}
-use Rattle.cache.proofs.single.Tie as tie
+use Rattle.course.proofs.next.single.Statement.{statement}
+use Rattle.course.specs.Next.{singleOf}
+use Rattle.course.proofs.next.single.Tie as tie
 
 returns : tie.Need-returns
 unfolding singleOf

@@ -1,7 +1,7 @@
 use borrow.Author.Needs.{needs}
-use Rattle.cache.proofs.settle.Statement.{statement}
-use Rattle.cache.specs.Cache.{settledOf}
-use Rattle.cache.proofs.settle.Tie as tie
+use Rattle.after.proofs.settle.Statement.{statement}
+use Rattle.after.specs.After.{settledOf}
+use Rattle.after.proofs.settle.Tie as tie
 
 returns : tie.Need-returns
 unfolding settledOf

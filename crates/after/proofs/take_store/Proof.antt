@@ -1,7 +1,7 @@
 use borrow.Author.Needs.{needs}
-use Rattle.cache.proofs.take_store.Statement.{statement}
-use Rattle.cache.specs.Cache.{storeOf}
-use Rattle.cache.proofs.take_store.Tie as tie
+use Rattle.after.proofs.take_store.Statement.{statement}
+use Rattle.after.specs.After.{storeOf}
+use Rattle.after.proofs.take_store.Tie as tie
 
 returns : tie.Need-returns
 unfolding storeOf
