@@ -7,7 +7,8 @@ use lib.Dec.{ltb}
 use Rattle.words.specs.Words.{pick, keepOf}
 use Rattle.memory.specs.declared.Moved.{Moved}
 use Rattle.memory.specs.Memory.{putOf}
-use Rattle.lines.specs.Lines.{marked, filledOf, usedAt, mergedAt}
+use Rattle.lines.specs.Lines.{marked, filledOf, usedAt}
+use Rattle.cells.specs.Cells.{mergedAt}
 use Rattle.state.specs.declared.Outcome.the-variants.{Word, Written}
 use Rattle.course.specs.declared.Course.{Course}
 use Rattle.course.specs.declared.Flight.{Flight}

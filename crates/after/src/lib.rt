@@ -77,7 +77,7 @@ pub fn take_store(c: Course, lines: &mut [u32; 1280], cells: &mut [u32], moved: 
 {
     let d = course::listed(c, moved);
     if moved.ok {
-        lines::merge(cells, c.place, c.t.address, c.access.enables, c.access.word);
+        cells::merge(cells, c.place, c.t.address, c.access.enables, c.access.word);
         settle(c, lines);
         return course::ended(d, Outcome::Written);
     }

@@ -4,7 +4,8 @@ use mathlib.Core.Bool.{Bool, _&&_, _||_}
 use mathlib.Core.List.{List}
 use lib.Dec.{eqb, ltb}
 use Rattle.words.specs.Words.{pick}
-use Rattle.lines.specs.Lines.{stateOf, modified, tagWord, hitOf, victimOf, marked, usedAt, mergedAt}
+use Rattle.lines.specs.Lines.{stateOf, modified, tagWord, hitOf, victimOf, marked, usedAt}
+use Rattle.cells.specs.Cells.{mergedAt}
 use Rattle.state.specs.declared.Outcome.the-variants.{Written}
 use Rattle.course.specs.declared.Course.{Course}
 use Rattle.course.specs.declared.Flight.{Flight}

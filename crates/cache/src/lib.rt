@@ -36,7 +36,7 @@ fn write_line(c: Course, p: usize, lines: &mut [u32; 1280], cells: &mut [u32]) -
     requires { ⌜ (p < 1024) × (c .place < 1024) × (length (now cells) ≡ 4096) ⌝ }
     ensures { λ r. ⌜ (cached r (now (lines .exit)) (now (cells .exit)) ≡ writeLineOf c p (now (lines .entry)) (now (cells .entry))) × (r .course .place < 1024) ⌝ }
 {
-    lines::merge(cells, p, c.t.address, c.access.enables, c.access.word);
+    cells::merge(cells, p, c.t.address, c.access.enables, c.access.word);
     lines::set_state(lines, p, 1);
     lines::note_use(lines, p);
     course::ended(c, Outcome::Written)

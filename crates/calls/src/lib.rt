@@ -1,4 +1,4 @@
-// The calls with the fault pair by value: what a call takes is tested, then the unit answers.
+// The calls to a running unit, with the fault pair by value: what a call takes is tested, then the unit answers.
 use answers::Accessed;
 use registers::Stored;
 use snoop::Snooped;

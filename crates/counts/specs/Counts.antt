@@ -10,7 +10,8 @@ use Rattle.words.specs.Words.{bitOf}
 use Rattle.words.specs.Laws.{either}
 use Rattle.memory.specs.declared.Read.{Read}
 use Rattle.memory.specs.Memory.{Wrote, readOf as readWordOf, partOf, shownOf, writeWordOf, writeLineOf, lineFits, inRom, ramPlace}
-use Rattle.lines.specs.Lines.{stateOf, modified, tagWord, hitOf, victimOf, marked, lineWords}
+use Rattle.lines.specs.Lines.{stateOf, modified, tagWord, hitOf, victimOf, marked}
+use Rattle.cells.specs.Cells.{lineWords}
 use Rattle.state.specs.declared.Access.{Access}
 use Rattle.state.specs.declared.Answer.{Answer}
 use Rattle.state.specs.declared.Registers.{Registers}

@@ -3,7 +3,8 @@ use Prim.Native.Nat.{ℕ, _*_, _/_}
 use mathlib.Core.Bool.{true, false, _||_}
 use mathlib.Core.List.{List}
 use Rattle.words.specs.Words.{keepOf}
-use Rattle.lines.specs.Lines.{lineAddress, usedAt, wordAt}
+use Rattle.lines.specs.Lines.{lineAddress, usedAt}
+use Rattle.cells.specs.Cells.{wordAt}
 use Rattle.state.specs.declared.Outcome.the-variants.{Word}
 use Rattle.course.specs.declared.Course.{Course}
 use Rattle.course.specs.declared.Flight.{Flight}

@@ -69,7 +69,7 @@ pub fn read_hit(c: Course, p: usize, lines: &mut [u32; 1280], cells: &[u32]) -> 
     requires { ⌜ (p < 1024) × (c .place < 1024) × (length (now cells) ≡ 4096) ⌝ }
     ensures { λ r. ⌜ (lined r (now (lines .exit)) ≡ readHitOf c p (now (lines .entry)) (now (cells .entry))) × (r .course .place < 1024) ⌝ }
 {
-    let word = lines::word(cells, p, c.t.address);
+    let word = cells::word(cells, p, c.t.address);
     lines::note_use(lines, p);
     crate::ended(c, Outcome::Word(words::keep(c.access.enables, word)))
 }

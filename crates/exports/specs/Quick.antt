@@ -10,7 +10,8 @@ use Rattle.words.specs.Words.{pick, bitOf, keepOf}
 use Rattle.state.specs.declared.Access.{Access}
 use Rattle.state.specs.declared.FaultPair.{FaultPair}
 use Rattle.state.specs.declared.Registers.{Registers}
-use Rattle.lines.specs.Lines.{marked, usedAt, wordAt, mergedAt}
+use Rattle.lines.specs.Lines.{marked, usedAt}
+use Rattle.cells.specs.Cells.{wordAt, mergedAt}
 use Rattle.registers.specs.Registers.{areaOf}
 use Rattle.answers.specs.Answers.{plainOf}
 use Rattle.unit.specs.Unit.{accessOf}

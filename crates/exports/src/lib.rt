@@ -1,4 +1,4 @@
-// The C functions with the fault pair by value.
+// The C functions of a running unit, with the fault pair by value.
 
 use answers::Accessed;
 use calls::WriteCall;

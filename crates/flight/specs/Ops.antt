@@ -5,7 +5,7 @@ use mathlib.Core.List.{List}
 use Rattle.words.specs.Words.{pick}
 use Rattle.memory.specs.declared.Moved.{Moved}
 use Rattle.memory.specs.declared.Read.{Read}
-use Rattle.lines.specs.Lines.{lineWords}
+use Rattle.cells.specs.Cells.{lineWords}
 use Rattle.state.specs.declared.Transaction.{Transaction}
 use Rattle.course.specs.declared.Course.{Course}
 use Rattle.course.specs.declared.Flight.{Flight}

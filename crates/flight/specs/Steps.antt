@@ -7,7 +7,8 @@ use lib.Dec.{eqb, ltb}
 use Rattle.words.specs.Words.{pick, bitOf, keepOf}
 use Rattle.memory.specs.declared.Moved.{Moved}
 use Rattle.memory.specs.Memory.{putOf}
-use Rattle.lines.specs.Lines.{stateOf, modified, tagWord, lineAddress, hitOf, victimOf, marked, filledOf, usedAt, wordAt, mergedAt, lineWords}
+use Rattle.lines.specs.Lines.{stateOf, modified, tagWord, lineAddress, hitOf, victimOf, marked, filledOf, usedAt}
+use Rattle.cells.specs.Cells.{wordAt, mergedAt, lineWords}
 use Rattle.state.specs.declared.Access.{Access}
 use Rattle.state.specs.declared.Fault.{Fault}
 use Rattle.state.specs.declared.Transaction.{Transaction}

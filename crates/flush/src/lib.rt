@@ -19,7 +19,7 @@ fn copy_back(
     requires { ⌜ (p < 1024) × (length (now cells) ≡ 4096) ⌝ }
     ensures { λ r. ⌜ (swept r (now (lines .exit)) (now (ram .exit)) ≡ copiedOf kind (now (lines .entry)) (now (cells .entry)) (now (ram .entry)) p address) × (r .words ≤ 4) ⌝ }
 {
-    let moved = memory::write_line(ram, address, lines::line_words(cells, p));
+    let moved = memory::write_line(ram, address, cells::line_words(cells, p));
     if moved.ok {
         lines::set_state(lines, p, sweep::after(kind));
         return sweep::well(4);

@@ -11,7 +11,8 @@ use borrow.Author.Tests.{leb-true}
 use Rattle.words.specs.Words.{pick}
 use Rattle.words.specs.Laws.{and-left}
 use Rattle.memory.specs.Memory.{ramPlace, ramLine}
-use Rattle.lines.specs.Lines.{tagOf, codeAt, stateOf, valid, modified, tagWord, lineAddress, wordAt}
+use Rattle.lines.specs.Lines.{tagOf, codeAt, stateOf, valid, modified, tagWord, lineAddress}
+use Rattle.cells.specs.Cells.{wordAt}
 use Rattle.lines.specs.Laws.{Hit, NoDoubles}
 use Rattle.sweep.specs.declared.Kind.{Kind}
 use Rattle.sweep.specs.declared.Kind.the-variants.{Invalidate}

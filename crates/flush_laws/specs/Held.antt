@@ -12,7 +12,8 @@ use borrow.Author.Tests.{eqb-true, eq-eqb, ne-eqb, lt-ltb, le-ltb, leb-true}
 use Rattle.words.specs.Words.{pick}
 use Rattle.words.specs.Laws.{and-left, and-right, ruled-out}
 use Rattle.memory.specs.Memory.{ramPlace, ramLine, readOf}
-use Rattle.lines.specs.Lines.{setOf, tagOf, stateOf, valid, modified, matches, tagWord, lineAddress, hitOf, wordAt}
+use Rattle.lines.specs.Lines.{setOf, tagOf, stateOf, valid, modified, matches, tagWord, lineAddress, hitOf}
+use Rattle.cells.specs.Cells.{wordAt}
 use Rattle.lines.specs.Laws.{Hit, Miss, Looked, found, missing, hit-is}
 use Rattle.sweep.specs.declared.Kind.{Kind}
 use Rattle.sweep.specs.declared.Kind.the-variants.{CopyBack, Both}

@@ -16,7 +16,8 @@ use Rattle.sweep.specs.Laws.{after-small}
 use Rattle.words.specs.Words.{pick}
 use Rattle.words.specs.Laws.{either, and-left, and-right}
 use Rattle.memory.specs.Memory.{ramLine, putOf, lineFits, writeLineOf}
-use Rattle.lines.specs.Lines.{tagOf, tagAt, stateOf, valid, modified, tagWord, lineAddress, withState, marked, lineWords}
+use Rattle.lines.specs.Lines.{tagOf, tagAt, stateOf, valid, modified, tagWord, lineAddress, withState, marked}
+use Rattle.cells.specs.Cells.{lineWords}
 use Rattle.lines.specs.Laws.{state-keeps-tag, state-set, below4}
 use Rattle.sweep.specs.declared.Kind.{Kind}
 use Rattle.sweep.specs.declared.Kind.the-variants.{Invalidate, CopyBack, Both}

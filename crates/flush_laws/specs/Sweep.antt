@@ -6,7 +6,8 @@ use mathlib.Core.List.{List, [], _∷_}
 use lib.ListN.{set}
 use Rattle.words.specs.Words.{pick}
 use Rattle.memory.specs.Memory.{ramLine, putOf, lineFits}
-use Rattle.lines.specs.Lines.{valid, modified, tagAt, tagWord, lineAddress, withState, lineWords}
+use Rattle.lines.specs.Lines.{valid, modified, tagAt, tagWord, lineAddress, withState}
+use Rattle.cells.specs.Cells.{lineWords}
 use Rattle.sweep.specs.declared.Flushed.{Flushed}
 use Rattle.sweep.specs.declared.Kind.{Kind}
 use Rattle.sweep.specs.declared.Range.{Range}

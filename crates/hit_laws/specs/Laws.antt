@@ -12,7 +12,8 @@ use Rattle.state.specs.declared.Access.{Access}
 use Rattle.state.specs.declared.FaultPair.{FaultPair}
 use Rattle.state.specs.declared.Registers.{Registers}
 use Rattle.state.specs.declared.Outcome.the-variants.{Word, Written}
-use Rattle.lines.specs.Lines.{stateOf, tagWord, hitOf, marked, usedAt, wordAt, mergedAt}
+use Rattle.lines.specs.Lines.{stateOf, tagWord, hitOf, marked, usedAt}
+use Rattle.cells.specs.Cells.{wordAt, mergedAt}
 use Rattle.pages.specs.declared.Translation.{Translation}
 use Rattle.lookup.specs.declared.Lookup.{Lookup}
 use Rattle.lookup.specs.declared.Lookup.the-variants.{Found}

@@ -3,7 +3,8 @@ ghost use mathlib.Core.Path.{_≡_};
 ghost use Prim.Native.Nat.{_<_};
 ghost use lib.ListN.{length};
 ghost use Rattle.words.specs.Words.{keepOf};
-ghost use Rattle.lines.specs.Lines.{wordAt, usedAt, marked, mergedAt};
+ghost use Rattle.lines.specs.Lines.{usedAt, marked};
+ghost use Rattle.cells.specs.Cells.{wordAt, mergedAt};
 ghost use Rattle.hits.specs.Hits.{wayOf, pageWayOf, noWay, foundOf, keptOf, noHit, hitBy, lookOf};
 use pages::Translation;
 
@@ -133,7 +134,7 @@ pub fn read(lines: &mut [u32; 1280], cells: &[u32], hit: Hit, enables: u32) -> u
     requires { ⌜ (hit .place < 1024) × (length (now cells) ≡ 4096) ⌝ }
     ensures { λ r. ⌜ (r ≡ keepOf enables (wordAt (now (cells .entry)) (hit .place) (hit .address))) × (now (lines .exit) ≡ usedAt (now (lines .entry)) (hit .place)) ⌝ }
 {
-    let word = lines::word(cells, hit.place, hit.address);
+    let word = cells::word(cells, hit.place, hit.address);
     lines::note_use(lines, hit.place);
     words::keep(enables, word)
 }
@@ -145,5 +146,5 @@ pub fn write(lines: &mut [u32; 1280], cells: &mut [u32], hit: Hit, enables: u32,
 {
     lines::set_state(lines, hit.place, 1);
     lines::note_use(lines, hit.place);
-    lines::merge(cells, hit.place, hit.address, enables, word);
+    cells::merge(cells, hit.place, hit.address, enables, word);
 }

@@ -1,4 +1,4 @@
-// The fault pair as the host lends it.
+// The fault pair as the host lends it, and what a call answers beside it.
 use state::FaultPair;
 ghost use mathlib.Core.Path.{_≡_};
 ghost use Rattle.lent.specs.Lent.{pairWith};

@@ -1,33 +1,26 @@
--- The cache: 256 sets of 4 lines of 4 words. A place is 4 x set + number, 0 to 1023.
+-- The cache's directory: 256 sets of 4 lines. A place is 4 x set + number, 0 to 1023.
 -- The directory holds for each set its four tag words, the tag in bits 31-12 and VV in bits 1-0, and then its use code.
 use Prim.Native.Nat.{ℕ, _+_, _-_, _*_, _/_, _%_}
 use mathlib.Core.Bool.{Bool, true, false, not, _&&_}
 use mathlib.Core.List.{List}
-use lib.ListN.{getD, set, take, drop}
+use lib.ListN.{getD, set}
 use lib.Dec.{eqb}
-use Rattle.words.specs.Words.{pick, bitsOf, mergeOf}
+use Rattle.words.specs.Words.{pick, bitsOf}
 use Rattle.order.specs.Order.{usedOf, earliestOf}
-use Rattle.memory.specs.Memory.{mergeAt}
 
--- set: physical bits 11-4; tag: bits 31-12; and the word of the line
+-- set: physical bits 11-4; tag: bits 31-12
 abbrev pub setOf : ℕ → ℕ
 setOf address = bitsOf address 11 4
 
 abbrev pub tagOf : ℕ → ℕ
 tagOf address = bitsOf address 31 12
 
-abbrev pub cellOf : ℕ → ℕ
-cellOf address = bitsOf address 3 2
-
--- where a place's tag word, its set's use code and its word for an address stand
+-- where a place's tag word and its set's use code stand
 abbrev pub tagAt : ℕ → ℕ
 tagAt p = p / 4 * 5 + p % 4
 
 abbrev pub codeAt : ℕ → ℕ
 codeAt p = p / 4 * 5 + 4
-
-abbrev pub cellAt : ℕ → ℕ → ℕ
-cellAt p address = p * 4 + cellOf address
 
 -- states: 0 exclusive unmodified, 1 exclusive modified, 2 shared unmodified, 3 invalid
 abbrev pub stateOf : ℕ → ℕ
@@ -80,13 +73,3 @@ filledOf ls p address = marked (tagged ls p address) p 2
 
 unfoldable pub usedAt : List ℕ → ℕ → List ℕ
 usedAt ls p = set ls (codeAt p) (usedOf (bitsOf (getD ls (codeAt p) 0) 5 0) (p % 4))
-
--- the word that a line holds for an address, the data with another merged onto it, and all four words of a line
-abbrev pub wordAt : List ℕ → ℕ → ℕ → ℕ
-wordAt cells p address = getD cells (cellAt p address) 0
-
-abbrev pub mergedAt : List ℕ → ℕ → ℕ → ℕ → ℕ → List ℕ
-mergedAt cells p address enables word = mergeAt cells (cellAt p address) enables word
-
-abbrev pub lineWords : List ℕ → ℕ → List ℕ
-lineWords cells p = take 4 (drop (p * 4) cells)

@@ -1,9 +1,8 @@
-// The cache: its directory of 256 sets of 4 lines, and the words of its lines.
-// A place is 4 x set + number, 0 to 1023; the four words of place p stand at 4p in `cells`.
+// The cache's directory: 256 sets of 4 lines. A place is 4 x set + number, 0 to 1023.
 ghost use mathlib.Core.Path.{_≡_};
 ghost use Prim.Native.Nat.{_*_, _<_, _≤_};
 ghost use lib.ListN.{length};
-ghost use Rattle.lines.specs.Lines.{setOf, tagOf, cellOf, tagAt, codeAt, tagWord, stateOf, valid, modified, matches, lineAddress, hitOf, victimOf, withState, marked, tagged, filledOf, usedAt, cellAt, wordAt, mergedAt, lineWords};
+ghost use Rattle.lines.specs.Lines.{setOf, tagOf, tagAt, codeAt, tagWord, stateOf, valid, modified, matches, lineAddress, hitOf, victimOf, withState, marked, tagged, filledOf, usedAt};
 ghost use Rattle.memory.specs.Memory.{putOf};
 use order::UseOrder;
 
@@ -19,13 +18,6 @@ pub fn tag_of(address: u32) -> u32
     ensures { λ r. ⌜ (r ≡ tagOf address) × (r < 1048576) ⌝ }
 {
     words::bits(address, 31, 12)
-}
-
-// The word of its line: bits 3-2.
-fn cell_of(address: u32) -> usize
-    ensures { λ r. ⌜ (r ≡ cellOf address) × (r < 4) ⌝ }
-{
-    words::bits(address, 3, 2) as usize
 }
 
 // Where the tag word of a place stands in the directory.
@@ -169,38 +161,4 @@ pub fn note_use(lines: &mut [u32; 1280], p: usize)
     let at = code_at(p);
     let next = UseOrder::of(lines[at]).used(p % 4);
     lines[at] = next.code;
-}
-
-// Where a line holds the word of an address.
-fn cell_at(p: usize, address: u32) -> usize
-    requires { ⌜ p < 1024 ⌝ }
-    ensures { λ r. ⌜ (r ≡ cellAt p address) × (r < 4096) ⌝ }
-{
-    p * 4 + cell_of(address)
-}
-
-// The word of an address in one line.
-pub fn word(cells: &[u32], p: usize, address: u32) -> u32
-    requires { ⌜ (p < 1024) × (length (now cells) ≡ 4096) ⌝ }
-    ensures { λ r. ⌜ r ≡ wordAt (now (cells .entry)) p address ⌝ }
-{
-    cells[cell_at(p, address)]
-}
-
-// Takes the enabled bytes of a word onto the one that a line holds for an address.
-pub fn merge(cells: &mut [u32], p: usize, address: u32, enables: u32, word: u32)
-    requires { ⌜ (p < 1024) × (length (now cells) ≡ 4096) ⌝ }
-    ensures { λ _. ⌜ now (cells .exit) ≡ mergedAt (now (cells .entry)) p address enables word ⌝ }
-{
-    let at = cell_at(p, address);
-    cells[at] = words::merge(enables, cells[at], word);
-}
-
-// The four words of one line, as they stand, for a copyback.
-pub fn line_words(cells: &[u32], p: usize) -> &[u32]
-    requires { ⌜ (p < 1024) × (length (now cells) ≡ 4096) ⌝ }
-    ensures { λ r. ⌜ (now r ≡ lineWords (now (cells .entry)) p) × (length (now r) ≡ 4) ⌝ }
-{
-    let at = p * 4;
-    &cells[at..at + 4]
 }

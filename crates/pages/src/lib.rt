@@ -1,4 +1,4 @@
-// From logical to physical: the block translations (BATC), the page translations (PATC) and the descriptors of a table search.
+// From logical to physical: the block translations (BATC), and what a page translation and a table search's descriptors say.
 pub mod tables;
 
 ghost use mathlib.Core.Path.{_≡_};

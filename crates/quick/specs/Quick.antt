@@ -4,7 +4,8 @@ use mathlib.Core.Bool.{Bool, not, _&&_}
 use mathlib.Core.List.{List, [], _∷_}
 use lib.Dec.{eqb, leb}
 use Rattle.words.specs.Words.{pick, bitOf, keepOf}
-use Rattle.lines.specs.Lines.{marked, usedAt, wordAt, mergedAt}
+use Rattle.lines.specs.Lines.{marked, usedAt}
+use Rattle.cells.specs.Cells.{wordAt, mergedAt}
 use Rattle.hits.specs.declared.Hit.{Hit}
 use Rattle.hits.specs.Hits.{noHit, lookOf}
 use Rattle.layout.specs.Layout.{at, registersOf}

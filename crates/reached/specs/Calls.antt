@@ -10,7 +10,8 @@ use Rattle.sweep.specs.Laws.{after-small}
 use Rattle.words.specs.Words.{bitOf, bitsOf}
 use Rattle.words.specs.Laws.{either, and-left, and-right}
 use Rattle.memory.specs.Memory.{Wrote, writeLineOf}
-use Rattle.lines.specs.Lines.{valid, modified, tagWord, lineAddress, hitOf, marked, lineWords}
+use Rattle.lines.specs.Lines.{valid, modified, tagWord, lineAddress, hitOf, marked}
+use Rattle.cells.specs.Cells.{lineWords}
 use Rattle.lines.specs.Laws.{Looked, hit-is}
 use Rattle.state.specs.declared.Access.{Access}
 use Rattle.state.specs.declared.Registers.{Registers}

@@ -12,7 +12,8 @@ use Rattle.words.specs.Laws.{either}
 use Rattle.memory.specs.declared.Moved.{Moved}
 use Rattle.memory.specs.declared.Read.{Read}
 use Rattle.memory.specs.Memory.{Wrote, readOf as readWordOf, partOf, shownOf, writeWordOf, writeLineOf}
-use Rattle.lines.specs.Lines.{setOf, stateOf, valid, modified, tagWord, lineAddress, hitOf, victimOf, marked, usedAt, lineWords}
+use Rattle.lines.specs.Lines.{setOf, stateOf, valid, modified, tagWord, lineAddress, hitOf, victimOf, marked, usedAt}
+use Rattle.cells.specs.Cells.{lineWords}
 use Rattle.lines.specs.Laws.{Miss, Looked, hit-is, victim-is, used-word}
 use Rattle.state.specs.declared.Access.{Access}
 use Rattle.state.specs.declared.Fault.{Fault}

@@ -11,7 +11,7 @@ use Rattle.words.specs.Laws.{either, merge-small}
 use Rattle.memory.specs.declared.Moved.{Moved}
 use Rattle.memory.specs.declared.Read.{Read}
 use Rattle.memory.specs.Memory.{ramPlace, ramLine, romWord, inRom, lineFits, partOf, shownOf, readOf, Wrote, writeWordOf, putOf, writeLineOf}
-use Rattle.lines.specs.Lines.{cellAt, mergedAt, lineWords}
+use Rattle.cells.specs.Cells.{cellAt, mergedAt, lineWords}
 use Rattle.fields.specs.Fields.{Words}
 use Rattle.reached.specs.Good.{GoodCells}
 

@@ -11,7 +11,8 @@ use Rattle.state.specs.declared.Access.{Access}
 use Rattle.state.specs.Outcome.{caseOf, valueOf}
 use Rattle.state.specs.Own.{ownIdr}
 use Rattle.state.specs.Reset.{resetOf, noFault}
-use Rattle.lines.specs.Lines.{setOf, cellOf, victimOf}
+use Rattle.lines.specs.Lines.{setOf, victimOf}
+use Rattle.cells.specs.Cells.{cellOf}
 use Rattle.pages.specs.Pages.{segmentAt, pageAt, portHits, portOf, blockOf, combinedOf, protectionOf}
 use Rattle.registers.specs.Registers.{readOf as registerOf}
 use Rattle.answers.specs.Answers.{plainOf, failedOf}

@@ -5,7 +5,8 @@ use mathlib.Core.List.{List}
 use lib.Dec.{ltb}
 use Rattle.words.specs.Words.{pick}
 use Rattle.memory.specs.Memory.{Wrote, writeLineOf}
-use Rattle.lines.specs.Lines.{modified, tagWord, lineAddress, hitOf, marked, lineWords}
+use Rattle.lines.specs.Lines.{modified, tagWord, lineAddress, hitOf, marked}
+use Rattle.cells.specs.Cells.{lineWords}
 use Rattle.snoop.specs.declared.Snooped.{Snooped}
 use Rattle.snoop.specs.declared.Snooped.the-variants.{Clear, Retry, Failed}
 

@@ -33,7 +33,7 @@ fn give(
     let moved = memory::write_line(
         ram,
         lines::line_address(p, word),
-        lines::line_words(cells, p),
+        cells::line_words(cells, p),
     );
     if moved.ok {
         lines::set_state(lines, p, yields(im));

@@ -4,7 +4,8 @@ use mathlib.Core.Path.{_≡_, refl}
 use mathlib.Core.Bool.{Bool, true, false}
 use mathlib.Core.List.{List}
 use Rattle.memory.specs.Memory.{Wrote, writeLineOf}
-use Rattle.lines.specs.Lines.{valid, modified, tagWord, lineAddress, marked, lineWords}
+use Rattle.lines.specs.Lines.{valid, modified, tagWord, lineAddress, marked}
+use Rattle.cells.specs.Cells.{lineWords}
 use Rattle.sweep.specs.declared.Kind.{Kind}
 use Rattle.sweep.specs.declared.Kind.the-variants.{Invalidate, CopyBack, Both}
 use Rattle.sweep.specs.declared.Range.{Range}

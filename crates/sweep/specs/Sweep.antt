@@ -5,7 +5,8 @@ use mathlib.Core.List.{List}
 use lib.Dec.{eqb}
 use Rattle.words.specs.Words.{pick, bitsOf}
 use Rattle.memory.specs.Memory.{Wrote, writeLineOf}
-use Rattle.lines.specs.Lines.{valid, modified, tagWord, lineAddress, marked, lineWords}
+use Rattle.lines.specs.Lines.{valid, modified, tagWord, lineAddress, marked}
+use Rattle.cells.specs.Cells.{lineWords}
 use Rattle.sweep.specs.declared.Flushed.{Flushed}
 use Rattle.sweep.specs.declared.Kind.{Kind}
 use Rattle.sweep.specs.declared.Kind.the-variants.{Invalidate, CopyBack, Both}

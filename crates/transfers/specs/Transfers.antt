@@ -3,7 +3,7 @@ use Prim.Native.Nat.{ℕ}
 use mathlib.Core.List.{List}
 use Rattle.words.specs.Words.{pick}
 use Rattle.memory.specs.Memory.{Wrote, partOf, shownOf, readOf, writeWordOf, writeLineOf}
-use Rattle.lines.specs.Lines.{lineWords}
+use Rattle.cells.specs.Cells.{lineWords}
 use Rattle.course.specs.declared.Course.{Course}
 use Rattle.course.specs.declared.Flight.{Flight}
 use Rattle.course.specs.declared.Stage.{Stage}

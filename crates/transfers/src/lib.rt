@@ -6,7 +6,7 @@ ghost use mathlib.Core.Path.{_≡_};
 ghost use Prim.Native.Nat.{_<_};
 ghost use lib.ListN.{length};
 ghost use Rattle.memory.specs.Memory.{partOf, shownOf, writeWordOf, writeLineOf};
-ghost use Rattle.lines.specs.Lines.{lineWords};
+ghost use Rattle.cells.specs.Cells.{lineWords};
 ghost use Rattle.course.specs.Next.{lined, cached};
 ghost use Rattle.after.specs.After.{dropOf, backOf, fillOf, storeOf};
 ghost use Rattle.transfers.specs.Transfers.{flownTo, singleBy, carried, transferOf};
@@ -15,7 +15,7 @@ fn drop(c: Course, lines: &mut [u32; 1280], cells: &[u32], ram: &mut [u32]) -> F
     requires { ⌜ (c .place < 1024) × (length (now cells) ≡ 4096) ⌝ }
     ensures { λ r. ⌜ (lined r (now (lines .exit)) ≡ dropOf c (now (lines .entry)) (writeLineOf (now (ram .entry)) (c .want .address) (lineWords (now (cells .entry)) (c .place)) .moved)) × (now (ram .exit) ≡ writeLineOf (now (ram .entry)) (c .want .address) (lineWords (now (cells .entry)) (c .place)) .ram) × (r .course .place < 1024) ⌝ }
 {
-    let part = lines::line_words(cells, c.place);
+    let part = cells::line_words(cells, c.place);
     let moved = memory::write_line(ram, c.want.address, part);
     after::take_drop(c, lines, moved)
 }
@@ -24,7 +24,7 @@ fn back(c: Course, cells: &[u32], ram: &mut [u32]) -> Flight
     requires { ⌜ (c .place < 1024) × (length (now cells) ≡ 4096) ⌝ }
     ensures { λ r. ⌜ (r ≡ backOf c (writeLineOf (now (ram .entry)) (c .want .address) (lineWords (now (cells .entry)) (c .place)) .moved)) × (now (ram .exit) ≡ writeLineOf (now (ram .entry)) (c .want .address) (lineWords (now (cells .entry)) (c .place)) .ram) × (r .course .place < 1024) ⌝ }
 {
-    let part = lines::line_words(cells, c.place);
+    let part = cells::line_words(cells, c.place);
     let moved = memory::write_line(ram, c.want.address, part);
     after::take_back(c, moved)
 }

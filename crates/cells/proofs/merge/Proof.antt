@@ -1,6 +1,6 @@
 use borrow.Author.Needs.{needs}
-use Rattle.lines.proofs.merge.Statement.{statement}
-use Rattle.lines.proofs.merge.Tie as tie
+use Rattle.cells.proofs.merge.Statement.{statement}
+use Rattle.cells.proofs.merge.Tie as tie
 
 returns : tie.Need-returns
 returns c = rw (← c .before .before .cell-at .ensures .0, ← c .merge .ensures)

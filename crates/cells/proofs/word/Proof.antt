@@ -1,6 +1,6 @@
 use borrow.Author.Needs.{needs}
-use Rattle.lines.proofs.word.Statement.{statement}
-use Rattle.lines.proofs.word.Tie as tie
+use Rattle.cells.proofs.word.Statement.{statement}
+use Rattle.cells.proofs.word.Tie as tie
 
 returns : tie.Need-returns
 returns c = rw (← c .before .cell-at .ensures .0)

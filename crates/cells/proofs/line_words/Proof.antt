@@ -1,9 +1,9 @@
 use borrow.Author.Needs.{needs}
-use Rattle.lines.proofs.line_words.Statement.{statement}
+use Rattle.cells.proofs.line_words.Statement.{statement}
 use native.Mathlib.Nat.{add-sub-cancel-left}
 use native.Mathlib.Omega.{arith}
 use lib.ListN.{length-take, length-drop}
-use Rattle.lines.proofs.line_words.Tie as tie
+use Rattle.cells.proofs.line_words.Tie as tie
 
 returns : tie.Need-returns
 returns c = (rw add-sub-cancel-left, simp (length-take, length-drop) (omega arith))
