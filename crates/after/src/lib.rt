@@ -1,4 +1,6 @@
 // What follows each transaction of the cache.
+#![tactic(auto)]
+
 ghost use Rattle.std.specs.Prelude.{◌≡◌, ◌<◌, length};
 ghost use Rattle.course.specs.Next.{lined, cached};
 ghost use Rattle.after.specs.After.{back_of, drop_of, fill_of, settled_of, store_of, word_of};

@@ -1,4 +1,6 @@
 // The answer to an access, with the registers and the fault pair that it leaves.
+#![tactic(auto)]
+
 ghost use Rattle.std.specs.Prelude.{◌≡◌, ◌<◌};
 ghost use Rattle.answers.specs.Answers.{total_of, fault_of, accessed, plain_of, failed_of, written_of, flown_of};
 
@@ -6,7 +8,7 @@ use course::Flight;
 use registers::Stored;
 use state::{Answer, Fault, FaultPair, Outcome, Registers, Transaction};
 
-#[derive(Drop)]
+#[derive(Clone, Copy)]
 pub struct Accessed {
     pub registers: Registers,
     pub pair: FaultPair,

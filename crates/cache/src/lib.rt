@@ -1,4 +1,6 @@
 // The cache's part of an access, once its translation stands.
+#![tactic(auto)]
+
 ghost use Rattle.std.specs.Prelude.{◌≡◌, ◌<◌, length};
 ghost use Rattle.course.specs.Next.{lined, cached};
 ghost use Rattle.cache.specs.Cache.{inhibited_of, uncached_of, write_line_of, write_hit_of, miss_of, enter_of};

@@ -1,4 +1,6 @@
 // The calls to a running unit, with the fault pair by value: what a call takes is tested, then the unit answers.
+#![tactic(auto)]
+
 ghost use Rattle.std.specs.Prelude.{◌≡◌, length};
 ghost use Rattle.calls.specs.Calls.{access_done, access_reply, access_refused, access_call, snoop_done, snoop_reply, snoop_call, read_call, write_done, write_reply, write_call};
 
@@ -9,42 +11,42 @@ use state::{Access, Answer, FaultPair, Outcome, Registers};
 use unit::Watched;
 
 // An access: 0 or a refusal's number, the registers, and the answer.
-#[derive(Drop)]
+#[derive(Clone, Copy)]
 pub struct AccessReply {
     pub number: u32,
     pub registers: Registers,
     pub answer: Answer,
 }
 
-#[derive(Drop)]
+#[derive(Clone, Copy)]
 pub struct AccessCall {
     pub pair: FaultPair,
     pub reply: AccessReply,
 }
 
 // A snoop, which touches no fault pair.
-#[derive(Drop)]
+#[derive(Clone, Copy)]
 pub struct SnoopReply {
     pub number: u32,
     pub registers: Registers,
     pub answer: Snooped,
 }
 
-#[derive(Drop)]
+#[derive(Clone, Copy)]
 pub struct ReadReply {
     pub number: u32,
     pub word: u32,
 }
 
 // A register write, and the words that its command moved.
-#[derive(Drop)]
+#[derive(Clone, Copy)]
 pub struct WriteReply {
     pub number: u32,
     pub registers: Registers,
     pub words: u32,
 }
 
-#[derive(Drop)]
+#[derive(Clone, Copy)]
 pub struct WriteCall {
     pub pair: FaultPair,
     pub reply: WriteReply,

@@ -1,4 +1,6 @@
 // The words of the cache's lines: the four of place p stand at 4p.
+#![tactic(auto)]
+
 ghost use Rattle.std.specs.Prelude.{◌≡◌, ◌<◌, length};
 ghost use Rattle.cells.specs.Cells.{cell_of, cell_at, word_at, merged_at, line_words};
 

@@ -1,4 +1,6 @@
 // The commands that a write to SCR runs.
+#![tactic(auto)]
+
 pub mod probe;
 
 ghost use Rattle.std.specs.Prelude.{◌≡◌, length};
@@ -9,7 +11,7 @@ use registers::Ran;
 use state::Registers;
 use sweep::Kind;
 
-#[derive(Drop)]
+#[derive(Clone, Copy)]
 pub enum Command {
     Nothing,
     Flush(Kind, sweep::Range),

@@ -1,4 +1,6 @@
 // What a flight carries from one transaction to the next, and how it goes on or ends.
+#![tactic(auto)]
+
 pub mod next;
 
 ghost use Rattle.std.specs.Prelude.{◌≡◌, ◌<◌};
@@ -9,7 +11,7 @@ use pages::Translation;
 use state::{Access, Fault, Outcome, Transaction};
 
 // Which transaction is wanted next.
-#[derive(Drop)]
+#[derive(Clone, Copy)]
 pub enum Stage {
     Done,
     Segment,
@@ -22,7 +24,7 @@ pub enum Stage {
     Single,
 }
 
-#[derive(Drop)]
+#[derive(Clone, Copy)]
 pub struct Course {
     pub access: Access,
     // the transaction wanted next, those listed so far
@@ -39,7 +41,7 @@ pub struct Course {
     pub place: usize,
 }
 
-#[derive(Drop)]
+#[derive(Clone, Copy)]
 pub struct Flight {
     pub stage: Stage,
     pub outcome: Outcome,

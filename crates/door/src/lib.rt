@@ -1,4 +1,6 @@
 // The public calls: a numbered refusal first, then the unit. The fault pair is lent, and updated where it stands.
+#![tactic(auto)]
+
 ghost use Rattle.std.specs.Prelude.{◌≡◌};
 ghost use Rattle.saved.specs.Chip.{chip};
 ghost use Rattle.saved.specs.Image.{saved};

@@ -1,4 +1,6 @@
 // The driver of one unit on its memory: it moves the words of each transaction that a flight wants.
+#![tactic(auto)]
+
 ghost use Rattle.std.specs.Prelude.{◌≡◌, ◌<◌, length};
 ghost use Rattle.memory.specs.Memory.{read_of, write_word_of};
 ghost use Rattle.flight.specs.Search.{flown, segment_of, page_of, update_of};

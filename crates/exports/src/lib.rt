@@ -1,4 +1,5 @@
 // The C functions of a running unit, with the fault pair by value.
+#![tactic(auto)]
 
 ghost use Rattle.std.specs.Prelude.{◌≡◌, [], ◌∷◌, length};
 ghost use Rattle.lent.specs.Lent.{unless};

@@ -1,4 +1,6 @@
 // Tagged fields: a one-byte tag, a two-byte length, and the content; words stand in it as four bytes, the highest first.
+#![tactic(auto)]
+
 ghost use Rattle.std.specs.Prelude.{◌≡◌, ◌+◌, ◌*◌, ◌<◌, ◌≤◌, length};
 ghost use Rattle.std.proofs.lemmas.List.Edits.{sets};
 ghost use Rattle.fields.specs.Fields.{word_bytes, word_at, words_at, head_of, count_at, head_at};

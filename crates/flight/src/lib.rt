@@ -1,4 +1,6 @@
 // One access as a flight of M bus transactions. It never sees memory: it has its answer, or it wants one transaction next.
+#![tactic(auto)]
+
 pub mod search;
 
 ghost use Rattle.std.specs.Prelude.{◌≡◌, ◌<◌, length};

@@ -1,4 +1,6 @@
 // The flush commands: lines are copied back, made invalid, or both, by place.
+#![tactic(auto)]
+
 ghost use Rattle.std.specs.Prelude.{◌≡◌, ◌<◌, ◌≤◌, length};
 ghost use Rattle.sweep.specs.Sweep.{swept, copied_of, line_of, sweep_of};
 

@@ -1,1 +1,2 @@
 // The laws of the flush commands: theorems of specs/, no code.
+#![tactic(auto)]

@@ -1,4 +1,6 @@
 // Reset of what is lent: entries and cache data are 0, lines invalid, each set's use code 63.
+#![tactic(auto)]
+
 ghost use Rattle.std.specs.Prelude.{◌≡◌};
 ghost use Rattle.fresh.specs.Fresh.{cleared_of, fresh_word, fresh_lines};
 

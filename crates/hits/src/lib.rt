@@ -1,4 +1,6 @@
 // An access that only touches a line of the cache: its way there is found without a flight, and it is answered where it stands.
+#![tactic(auto)]
+
 ghost use Rattle.std.specs.Prelude.{◌≡◌, ◌<◌, length};
 ghost use Rattle.words.specs.Words.{keep_of};
 ghost use Rattle.lines.specs.Lines.{used_at, marked};
@@ -8,7 +10,7 @@ ghost use Rattle.hits.specs.Hits.{way_of, page_way_of, no_way, found_of, kept_of
 use pages::Translation;
 
 // The way of an access to the cache: its physical address, whether it may touch a line alone, and whether its page is global.
-#[derive(Drop)]
+#[derive(Clone, Copy)]
 pub struct Way {
     pub address: u32,
     pub clear: bool,
@@ -16,7 +18,7 @@ pub struct Way {
 }
 
 // Where an access hits: the place of its line, 1024 for none, and the physical address.
-#[derive(Drop)]
+#[derive(Clone, Copy)]
 pub struct Hit {
     pub place: usize,
     pub address: u32,

@@ -1,4 +1,6 @@
 // The saved image of a unit, edition 1: writing it and reading it.
+#![tactic(auto)]
+
 mod write;
 
 ghost use Rattle.std.specs.Prelude.{◌≡◌, length};

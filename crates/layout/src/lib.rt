@@ -1,4 +1,6 @@
 // How a unit, an access and its answer are laid out in plain arrays.
+#![tactic(auto)]
+
 ghost use Rattle.std.specs.Prelude.{◌≡◌, ◌≤◌};
 ghost use Rattle.layout.specs.Layout.{registers_of, unit_of, bits_of, row_of, access_as, count_of, reply_of, snooped_of};
 
@@ -6,7 +8,7 @@ use snoop::Snooped;
 use state::{Access, Answer, Registers, Transaction};
 
 // A transaction in a reply: its bits, address and words.
-#[derive(Drop)]
+#[derive(Clone, Copy)]
 pub struct Row {
     pub bits: u32,
     pub address: u32,

@@ -1,5 +1,5 @@
 -- Laws of the directory: what a store leaves alone, what a hit says, and that no two valid lines of a set come to have one tag.
-use Rattle.std.specs.Prelude.{ℕ, zero, suc, ◌+◌, ◌-◌, ◌*◌, ◌/◌, ◌%◌, ◌<◌, ◌≤◌, ◌≡◌, Bool, not, ◌&&◌, List, get_or, set, eqb}
+use Rattle.std.specs.Prelude.{ℕ, ◌+◌, ◌*◌, ◌/◌, ◌%◌, ◌<◌, ◌≡◌, Bool, not, List, get_or, set}
 use Rattle.std.proofs.Math.Path.{refl, sym, ap}
 use Rattle.std.proofs.Common.{◌∙◌, subst, get_or-set_other}
 use Rattle.std.proofs.Math.Bool.{true, false, true≢false}
@@ -8,13 +8,13 @@ use Rattle.std.proofs.Math.Nat.{add-zero}
 use Rattle.std.proofs.Math.Decide.{ℕ_discrete}
 use Rattle.std.proofs.Math.ListN.{length, length-set}
 use Rattle.std.proofs.Math.Seq.{get_or-set_same}
-use borrow.Author.Tests.{eq-eqb, ne_eqb, eqb-true, eqb-false}
+use borrow.Author.Tests.{eq-eqb, eqb-true}
 use Rattle.words.specs.Words.{pick, bits_of}
 use Rattle.words.specs.Laws.{and_left, and_right}
 use Rattle.order.specs.Order.{earliest_of}
 use Rattle.order.specs.Laws.{earliest_small}
 use Rattle.state.specs.Own.{own_tag, tag_fields}
-use Rattle.lines.specs.Lines.{set_of, tag_of, tag_at, code_at, state_of, valid, modified, matches, tag_word, lowest, hit_of, victim_of, with_state, marked, tagged, filled_of, used_at}
+use Rattle.lines.specs.Lines.{set_of, tag_of, tag_at, code_at, state_of, valid, matches, tag_word, lowest, hit_of, victim_of, with_state, marked, tagged, filled_of, used_at}
 
 -- ---- a store at one place leaves every other place
 

@@ -1,6 +1,6 @@
 -- The cache's directory: 256 sets of 4 lines. A place is 4 x set + number, 0 to 1023.
 -- The directory holds for each set its four tag words, the tag in bits 31-12 and VV in bits 1-0, and then its use code.
-use Rattle.std.specs.Prelude.{ℕ, ◌+◌, ◌-◌, ◌*◌, ◌/◌, ◌%◌, Bool, true, false, not, ◌&&◌, List, get_or, set, eqb}
+use Rattle.std.specs.Prelude.{ℕ, ◌+◌, ◌*◌, ◌/◌, ◌%◌, Bool, not, ◌&&◌, List, get_or, set, eqb}
 use Rattle.words.specs.Words.{pick, bits_of}
 use Rattle.order.specs.Order.{used_of, earliest_of}
 

@@ -1,4 +1,6 @@
 // The cache's directory: 256 sets of 4 lines. A place is 4 x set + number, 0 to 1023.
+#![tactic(auto)]
+
 ghost use Rattle.std.specs.Prelude.{◌≡◌, ◌*◌, ◌<◌, ◌≤◌, length};
 ghost use Rattle.lines.specs.Lines.{set_of, tag_of, tag_at, code_at, tag_word, state_of, valid, modified, matches, line_address, hit_of, victim_of, with_state, marked, tagged, filled_of, used_at};
 ghost use Rattle.memory.specs.Memory.{put_of};

@@ -1,4 +1,6 @@
 // Where an address is looked up, in order: unmapped, BATC, PATC; and what an access or a finished search may do with what was found.
+#![tactic(auto)]
+
 ghost use Rattle.std.specs.Prelude.{◌≡◌};
 ghost use Rattle.lookup.specs.Lookup.{place_of, violation_of, guarded_of, entered_of, judge_of, walked_of};
 
@@ -6,7 +8,7 @@ use pages::Translation;
 use state::Fault;
 
 // Where a translation was found; a page's has the number of its entry.
-#[derive(Drop)]
+#[derive(Clone, Copy)]
 pub enum Place {
     Unmapped(Translation),
     Block(Translation),
@@ -15,7 +17,7 @@ pub enum Place {
 }
 
 // What an access does next: go on with its translation, end in a fault, or search the tables and renew an entry (56: load one).
-#[derive(Drop)]
+#[derive(Clone, Copy)]
 pub enum Lookup {
     Found(Translation),
     Violation(Fault),
@@ -23,7 +25,7 @@ pub enum Lookup {
 }
 
 // What a search does once both descriptors are read.
-#[derive(Drop)]
+#[derive(Clone, Copy)]
 pub enum Walked {
     Violation(Fault),
     Update(Translation, u32),

@@ -1,4 +1,6 @@
 // The calls as C functions on plain arrays: include/mc88200.h says what each does.
+#![tactic(auto)]
+
 ghost use Rattle.std.specs.Prelude.{◌≡◌};
 ghost use Rattle.saved.specs.Image.{saved};
 ghost use Rattle.restarts.specs.Restarts.{unit_out, reset_export, restore_export, save_export};

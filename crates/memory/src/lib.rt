@@ -1,9 +1,11 @@
 // Memory as the host lends it: RAM from address 0, ROM from FFE00000. Nobody else moves a word.
+#![tactic(auto)]
+
 ghost use Rattle.std.specs.Prelude.{◌≡◌, ◌+◌, ◌*◌, ◌/◌, ◌<◌, ◌≤◌, length};
 ghost use Rattle.memory.specs.Memory.{ram_rule, rom_rule, ram_place, ram_line, rom_word, moved_of, failed_of, part_of, shown_of, unread_of, read_of, wrote, put_of, write_word_of, write_line_of};
 
 // What a transaction moved: did it end well, the words to list, and else where it failed.
-#[derive(Drop)]
+#[derive(Clone, Copy)]
 pub struct Moved {
     pub ok: bool,
     pub words: u8,
@@ -11,7 +13,7 @@ pub struct Moved {
 }
 
 // A word read, 0 where none could be.
-#[derive(Drop)]
+#[derive(Clone, Copy)]
 pub struct Read {
     pub moved: Moved,
     pub word: u32,

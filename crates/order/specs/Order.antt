@@ -1,5 +1,5 @@
 -- The use code: six bits for the six pairs of a set's four lines.
-use Rattle.std.specs.Prelude.{ℕ, ◌+◌, ◌-◌, ◌*◌, ◌/◌, ◌%◌, ◌^◌, Bool, true, false, not, ◌&&◌, ◌||◌, eqb, ltb}
+use Rattle.std.specs.Prelude.{ℕ, ◌+◌, ◌-◌, ◌*◌, ◌/◌, ◌%◌, ◌^◌, Bool, not, ◌&&◌, ◌||◌, eqb, ltb}
 use Rattle.words.specs.Words.{pick, bit_of}
 use Rattle.order.specs.declared.UseOrder.{UseOrder}
 

@@ -1,4 +1,6 @@
 // The use code of a set: which of its four lines was used later than which.
+#![tactic(auto)]
+
 mod tables;
 
 ghost use Rattle.std.specs.Prelude.{◌≡◌, ◌<◌};
@@ -6,7 +8,7 @@ ghost use Rattle.words.specs.Words.{bits_of};
 ghost use Rattle.order.specs.Order.{ordered, used_of, earliest_of, is_order};
 
 // A use code. Of any other bits of its word none counts.
-#[derive(Drop)]
+#[derive(Clone, Copy)]
 pub struct UseOrder {
     pub code: u32,
 }

@@ -1,11 +1,13 @@
 // From logical to physical: the block translations (BATC), and what a page translation and a table search's descriptors say.
+#![tactic(auto)]
+
 pub mod tables;
 
 ghost use Rattle.std.specs.Prelude.{◌≡◌, ◌<◌};
 ghost use Rattle.pages.specs.Pages.{port_key, block_key, port_of, block_of, unmapped_of, paged_of, protection_of};
 
 // A physical address with its attributes.
-#[derive(Drop)]
+#[derive(Clone, Copy)]
 pub struct Translation {
     pub address: u32,
     pub wt: bool,

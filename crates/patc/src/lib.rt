@@ -1,9 +1,11 @@
 // The page translations: 56 entries, looked at and changed where they stand.
+#![tactic(auto)]
+
 ghost use Rattle.std.specs.Prelude.{◌≡◌, ◌<◌, ◌≤◌};
 ghost use Rattle.patc.specs.Patc.{frame_word, entry_of, valid_of, map_of, free_of, stepped_of, loaded, load_of, put_of, named, cleared_word, cleared_of};
 
 // Which translations a command clears: those of a page, of a segment, or all.
-#[derive(Drop)]
+#[derive(Clone, Copy)]
 pub enum Range {
     Page,
     Segment,

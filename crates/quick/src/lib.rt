@@ -1,4 +1,6 @@
 // An access that only touches a line of the cache, told from the words of a unit; and its reply.
+#![tactic(auto)]
+
 ghost use Rattle.std.specs.Prelude.{◌≡◌, ◌<◌, length};
 ghost use Rattle.quick.specs.Quick.{plain_access, area_at, quick_of, plain_reply, lines_after, cells_after, reply_after};
 

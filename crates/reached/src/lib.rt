@@ -1,1 +1,2 @@
 // Every unit that can be reached is well formed: theorems of specs/, no code.
+#![tactic(auto)]

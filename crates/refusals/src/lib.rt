@@ -1,4 +1,6 @@
 // Malformed calls: the first number that applies, tested in rising order, or 0.
+#![tactic(auto)]
+
 ghost use Rattle.std.specs.Prelude.{◌≡◌};
 ghost use Rattle.refusals.specs.Refusals.{enables_test, address_test, offset_test, access_refusal, snoop_refusal, read_refusal, write_refusal, reset_refusal, save_refusal};
 

@@ -1,11 +1,13 @@
 // The registers by their offsets. SCR is not here: a write to it runs a command.
+#![tactic(auto)]
+
 ghost use Rattle.std.specs.Prelude.{◌≡◌, ◌<◌};
 ghost use Rattle.registers.specs.Registers.{area_of, read_of, stored_of, with_scr, with_ssr, with_sar, with_sctr, with_sapr, with_uapr, with_pointer, with_port, with_status, set_fault_of, set_port_of, set_register_of, set_of};
 
 use state::{FaultPair, Registers};
 
 // Registers and the fault pair after a call, and the words that it moved.
-#[derive(Drop)]
+#[derive(Clone, Copy)]
 pub struct Stored {
     pub registers: Registers,
     pub pair: FaultPair,
@@ -13,7 +15,7 @@ pub struct Stored {
 }
 
 // Registers after a command, and the words that it moved.
-#[derive(Drop)]
+#[derive(Clone, Copy)]
 pub struct Ran {
     pub registers: Registers,
     pub words: u32,

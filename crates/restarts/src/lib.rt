@@ -1,4 +1,6 @@
 // Reset, restoring and saving on plain arrays, with the fault pair by value.
+#![tactic(auto)]
+
 ghost use Rattle.std.specs.Prelude.{◌≡◌};
 ghost use Rattle.lent.specs.Lent.{unless};
 ghost use Rattle.saved.specs.Image.{saved};

@@ -1,4 +1,6 @@
 // What a saved image is, edition 1: which bits it holds of each word, what it reads as, and whether it is taken.
+#![tactic(auto)]
+
 pub mod read;
 mod tests;
 pub mod verdict;
@@ -9,7 +11,7 @@ ghost use Rattle.saved.specs.Chip.{own_word};
 use state::{FaultPair, Registers, own};
 
 // How the words of a list are laid out, and so which bits of each are its own.
-#[derive(Drop)]
+#[derive(Clone, Copy)]
 pub enum Layout {
     // Whole words: ports and cache data.
     Whole,
@@ -20,7 +22,7 @@ pub enum Layout {
 }
 
 // What is not to stand twice.
-#[derive(Drop)]
+#[derive(Clone, Copy)]
 pub enum Kind {
     // A valid line of a set, by its tag.
     Line,
@@ -29,7 +31,7 @@ pub enum Kind {
 }
 
 // What restoring answers: 0 or a refusal's number, and the registers and the fault pair as they then stand.
-#[derive(Drop)]
+#[derive(Clone, Copy)]
 pub struct Restored {
     pub number: u32,
     pub registers: Registers,

@@ -1,9 +1,11 @@
 // Another master's transaction, as this unit sees it.
+#![tactic(auto)]
+
 ghost use Rattle.std.specs.Prelude.{◌≡◌, ◌<◌, length};
 ghost use Rattle.snoop.specs.Snoop.{snooped, yield_of, retried_of, hit_by, snoop_of};
 
 // What a snooping unit answers.
-#[derive(Drop)]
+#[derive(Clone, Copy)]
 pub enum Snooped {
     Clear,
     Retry,

@@ -1,4 +1,6 @@
 // Calls that start a unit or keep it, with the fault pair by value: reset, restoring a saved image, saving one.
+#![tactic(auto)]
+
 ghost use Rattle.std.specs.Prelude.{◌≡◌};
 ghost use Rattle.saved.specs.Chip.{chip};
 ghost use Rattle.saved.specs.Image.{saved};
@@ -8,20 +10,20 @@ use saved::Restored;
 use state::{FaultPair, Registers};
 
 // Reset and restoring.
-#[derive(Drop)]
+#[derive(Clone, Copy)]
 pub struct UnitReply {
     pub number: u32,
     pub registers: Registers,
 }
 
-#[derive(Drop)]
+#[derive(Clone, Copy)]
 pub struct UnitCall {
     pub pair: FaultPair,
     pub reply: UnitReply,
 }
 
 // Saving.
-#[derive(Drop)]
+#[derive(Clone, Copy)]
 pub struct SaveReply {
     pub number: u32,
 }

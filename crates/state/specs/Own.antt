@@ -1,5 +1,5 @@
 -- The own bits of each word, as document 01 lists its fields.
-use Rattle.std.specs.Prelude.{ℕ, ◌+◌, ◌*◌, ◌<◌, ◌≤◌, ◌≡◌, refl, Bool, true, false, eqb, leb}
+use Rattle.std.specs.Prelude.{ℕ, ◌+◌, ◌*◌, ◌<◌, ◌≤◌, ◌≡◌, leb}
 use Rattle.std.proofs.Common.{arith, le-leb, leb-true}
 use Rattle.words.specs.Words.{pick, bits_of}
 use Rattle.words.specs.Laws.{either}

@@ -1,5 +1,5 @@
 -- The registers and the fault pair at reset: document 003, section 6.2 and tables 2-3 and 6-3; what these leave undefined is 0.
-use Rattle.std.specs.Prelude.{ℕ, ◌+◌, ◌*◌, List, replicate}
+use Rattle.std.specs.Prelude.{ℕ, ◌+◌, ◌*◌, replicate}
 use Rattle.state.specs.declared.Registers.{Registers}
 use Rattle.state.specs.declared.FaultPair.{FaultPair}
 

@@ -1,4 +1,6 @@
 // What a unit is made of, what it is asked and what it answers; and which bits of each word are its own.
+#![tactic(auto)]
+
 pub mod own;
 
 ghost use Rattle.std.specs.Prelude.{◌≡◌};
@@ -6,7 +8,7 @@ ghost use Rattle.state.specs.Reset.{reset_of, no_fault};
 ghost use Rattle.state.specs.Outcome.{case_of, value_of, place_of, status_of, pair_of};
 
 // The registers but for the fault pair: 000 to 00C, 104, 200 and 204, the PATC's pointer, and BWP0 to BWP7.
-#[derive(Drop)]
+#[derive(Clone, Copy)]
 pub struct Registers {
     pub idr: u32,
     pub scr: u32,
@@ -21,14 +23,14 @@ pub struct Registers {
 
 // PFSR and PFAR, laid out for hosts in C.
 #[repr(C)]
-#[derive(Drop)]
+#[derive(Clone, Copy)]
 pub struct FaultPair {
     pub status: u32,
     pub address: u32,
 }
 
 // What the processor asks: a read, or a write of `word` under its enables.
-#[derive(Drop)]
+#[derive(Clone, Copy)]
 pub struct Access {
     pub address: u32,
     pub supervisor: bool,
@@ -39,14 +41,14 @@ pub struct Access {
 }
 
 // A fault's code as PFSR has it, and its address.
-#[derive(Drop)]
+#[derive(Clone, Copy)]
 pub struct Fault {
     pub code: u32,
     pub address: u32,
 }
 
 // How an access ended.
-#[derive(Drop)]
+#[derive(Clone, Copy)]
 pub enum Outcome {
     Idle,
     Word(u32),
@@ -55,7 +57,7 @@ pub enum Outcome {
 }
 
 // One M bus transaction: read or write, its address (of a line, its first), the words moved, G, IM, LK and CI.
-#[derive(Drop)]
+#[derive(Clone, Copy)]
 pub struct Transaction {
     pub write: bool,
     pub address: u32,
@@ -67,7 +69,7 @@ pub struct Transaction {
 }
 
 // The answer to an access; beside it stand its transactions in order, and the count of words moved.
-#[derive(Drop)]
+#[derive(Clone, Copy)]
 pub struct Answer {
     pub outcome: Outcome,
     pub list: [Transaction; 6],

@@ -1,4 +1,6 @@
 // The story of one unit, told as a technician reads it: tables, a sensor's page, and three probes.
+#![tactic(auto)]
+
 use libc::STDOUT_FILENO;
 use state::{Access, FaultPair, Outcome, Registers};
 

@@ -1,9 +1,11 @@
 // Which lines a flush command covers, and what becomes of each.
+#![tactic(auto)]
+
 ghost use Rattle.std.specs.Prelude.{◌≡◌, ◌<◌};
 ghost use Rattle.sweep.specs.Sweep.{covers_of, copies_of, drops_of, after_of, well_of, stopped_of};
 
 // 14-17 invalidate, 18-1B copy back, 1C-1F both.
-#[derive(Drop)]
+#[derive(Clone, Copy)]
 pub enum Kind {
     Invalidate,
     CopyBack,
@@ -11,7 +13,7 @@ pub enum Kind {
 }
 
 // The low two bits: a line, a page, a segment, all; by the physical SAR.
-#[derive(Drop)]
+#[derive(Clone, Copy)]
 pub enum Range {
     Line,
     Page,
@@ -20,7 +22,7 @@ pub enum Range {
 }
 
 // How a flush ended: did every copyback go well, the words moved, and else the line's address.
-#[derive(Drop)]
+#[derive(Clone, Copy)]
 pub struct Flushed {
     pub ok: bool,
     pub words: u32,

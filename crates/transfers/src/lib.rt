@@ -1,4 +1,6 @@
 // What the cache wants moved, on RAM and ROM: a line copied back or filled, a word written through, a single word.
+#![tactic(auto)]
+
 ghost use Rattle.std.specs.Prelude.{◌≡◌, ◌<◌, length};
 ghost use Rattle.memory.specs.Memory.{part_of, shown_of, write_word_of, write_line_of};
 ghost use Rattle.cells.specs.Cells.{line_words};

@@ -1,4 +1,5 @@
 // One unit on its memory: accesses and snoops.
+#![tactic(auto)]
 
 ghost use Rattle.std.specs.Prelude.{◌≡◌, length};
 ghost use Rattle.unit.specs.Unit.{whole, mapped_of, access_of, after_snoop, watched, snoop_of};
@@ -52,7 +53,7 @@ pub fn access(
 }
 
 // A snoop of another master's transaction; a failed copyback sets CE.
-#[derive(Drop)]
+#[derive(Clone, Copy)]
 pub struct Watched {
     pub registers: Registers,
     pub answer: Snooped,

@@ -1,7 +1,7 @@
 -- Laws of a word's bytes.
-use Rattle.std.specs.Prelude.{ℕ, ◌+◌, ◌-◌, ◌*◌, ◌/◌, ◌%◌, ◌^◌, ◌<◌, ◌≤◌, ◌≡◌, refl, Bool, true, false, ◌&&◌, ◌||◌}
+use Rattle.std.specs.Prelude.{ℕ, ◌/◌, ◌%◌, ◌^◌, ◌<◌, ◌≡◌, refl, Bool, true, false, ◌&&◌, ◌||◌}
 use Rattle.std.proofs.Common.{sym, ap, ◌∙◌, arith, shr-shr}
-use Rattle.words.specs.Words.{pick, bits_of, bit_of, byte_of, lane_of, join_of, merge_of}
+use Rattle.words.specs.Words.{pick, bit_of, byte_of, lane_of, join_of, merge_of}
 
 -- what holds of both choices, each where its test came out so, holds of the one picked
 pub either {ℓ} : {A : Type ℓ} (P : A → Type 0) (b : Bool) {x y : A} → (b ≡ true → P x) → (b ≡ false → P y) → P (pick b x y)
@@ -64,8 +64,15 @@ pub merge_none : (old new : ℕ) → old < 2 ^ 32 → merge_of 0 old new ≡ old
 unfolding merge_of
 merge_none old new h = join_bytes old h
 
+byte_small : (w n : ℕ) → byte_of w n < 256
+byte_small w n = omega arith
+
+pick_small : (b : Bool) (x y : ℕ) → x < 256 → y < 256 → pick b x y < 256
+pick_small true x y p q = p
+pick_small false x y p q = q
+
 lane_small : (enables old new n : ℕ) → lane_of enables old new n < 256
-lane_small enables old new n = either (λ b. b < 256) (bit_of enables n) (λ _. omega arith) (λ _. omega arith)
+lane_small enables old new n = pick_small _ _ _ (byte_small new n) (byte_small old n)
 
 -- a merged word is a word
 pub merge_small : (enables old new : ℕ) → merge_of enables old new < 2 ^ 32

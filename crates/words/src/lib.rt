@@ -1,4 +1,6 @@
 // The smallest room: the fields of a word, and its four bytes.
+#![tactic(auto)]
+
 ghost use Rattle.std.specs.Prelude.{◌≡◌, ◌-◌, ◌+◌, ◌^◌, ◌<◌, ◌≤◌};
 ghost use Rattle.words.specs.Words.{bits_of, bit_of, byte_of, lane_of, merge_of, keep_of, join_of, flag_of};
 

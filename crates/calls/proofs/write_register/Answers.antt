@@ -1,0 +1,16 @@
+use Rattle.std.proofs.Common.{sym, ◌∙◌}
+use Rattle.refusals.specs.Refusals.{write_cells}
+use Rattle.calls.specs.Calls.{write_by}
+use borrow.Author.Tests.{eq-eqb, ne_eqb}
+use Rattle.calls.proofs.write_register.Goals as goal
+
+pub returns-then-number-ne0 : goal.returns-then-number-ne0
+unfolding write_by
+returns-then-number-ne0 c = rw (c.write_call.ensures.0, c.write_call.ensures.1, ← c.write-number.ensures, ne_eqb _ _ c.if-number-ne0.true)
+
+pub write_register-requires : goal.write_register-requires
+write_register-requires c = write_cells _ _ _ _ (sym c.write-number.ensures ∙ c.if-number-ne0.false)
+
+pub returns : goal.returns
+unfolding write_by
+returns c = rw (c.write_taken.ensures.0, c.write_taken.ensures.1, ← c.write-number.ensures, eq-eqb _ _ c.if-number-ne0.false, ← c.write_register.ensures)

@@ -1,0 +1,17 @@
+use Rattle.starts.specs.Starts.{unit_by, UnitDone}
+use Rattle.refusals.specs.Refusals.{restore_refusal}
+use Rattle.saved.specs.Verdict.{restore_of, Loaded}
+use mathlib.Core.Path.{ap}
+use borrow.Author.Tests.{eq-eqb, ne_eqb}
+use Rattle.starts.proofs.restore.Goals as goal
+
+abbrev done_of : Loaded → UnitDone
+done_of l = record { number = l.number; unit = l.unit }
+
+pub returns-then-cells-ne4096 : goal.returns-then-cells-ne4096
+unfolding unit_by restore_refusal restore_of
+returns-then-cells-ne4096 c = rw (c.unit_call.ensures.0, c.unit_call.ensures.1, c.unit_call.ensures.2, ne_eqb _ _ c.if-cells-ne4096.true)
+
+pub returns : goal.returns
+unfolding unit_by restore_refusal restore_of
+returns c = rw (c.restored.ensures.0, c.restored.ensures.1, c.restored.ensures.2, eq-eqb _ _ c.if-cells-ne4096.false) (ap done_of c.restore.ensures)
