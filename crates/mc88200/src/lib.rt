@@ -1,4 +1,4 @@
-// The calls as C functions on plain arrays: include/mc88200.h says what each does.
+// The calls on plain arrays, as C makes them: include/mc88200.h says what each does.
 #![tactic(auto)]
 
 ghost use Rattle.std.specs.Prelude.{◌≡◌};
@@ -8,8 +8,7 @@ ghost use Rattle.exports.specs.Exports.{access_out, access_export, snoop_out, sn
 
 use state::FaultPair;
 
-#[unsafe(no_mangle)]
-pub extern "C" fn mc88200_reset(
+pub fn mc88200_reset(
     unit: &mut [u32; 16],
     fault: &mut FaultPair,
     patc: &mut [u32; 112],
@@ -24,8 +23,7 @@ pub extern "C" fn mc88200_reset(
     r.number
 }
 
-#[unsafe(no_mangle)]
-pub extern "C" fn mc88200_access(
+pub fn mc88200_access(
     unit: &mut [u32; 16],
     fault: &mut FaultPair,
     patc: &mut [u32; 112],
@@ -48,8 +46,7 @@ pub extern "C" fn mc88200_access(
     r.number
 }
 
-#[unsafe(no_mangle)]
-pub extern "C" fn mc88200_snoop(
+pub fn mc88200_snoop(
     unit: &mut [u32; 16],
     lines: &mut [u32; 1280],
     cells: &[u32],
@@ -63,8 +60,7 @@ pub extern "C" fn mc88200_snoop(
     exports::snoop(unit, lines, cells, ram, address, kind, reply)
 }
 
-#[unsafe(no_mangle)]
-pub extern "C" fn mc88200_read_register(
+pub fn mc88200_read_register(
     unit: &[u32; 16],
     fault: &FaultPair,
     offset: u32,
@@ -76,8 +72,7 @@ pub extern "C" fn mc88200_read_register(
     r.number
 }
 
-#[unsafe(no_mangle)]
-pub extern "C" fn mc88200_write_register(
+pub fn mc88200_write_register(
     unit: &mut [u32; 16],
     fault: &mut FaultPair,
     patc: &mut [u32; 112],
@@ -98,8 +93,7 @@ pub extern "C" fn mc88200_write_register(
     r.number
 }
 
-#[unsafe(no_mangle)]
-pub extern "C" fn mc88200_save(
+pub fn mc88200_save(
     unit: &[u32; 16],
     fault: &FaultPair,
     patc: &[u32; 112],
@@ -113,8 +107,7 @@ pub extern "C" fn mc88200_save(
     r.number
 }
 
-#[unsafe(no_mangle)]
-pub extern "C" fn mc88200_restore(
+pub fn mc88200_restore(
     unit: &mut [u32; 16],
     fault: &mut FaultPair,
     patc: &mut [u32; 112],

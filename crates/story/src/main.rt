@@ -1,34 +1,27 @@
 // The story of one unit, told as a technician reads it: tables, a sensor's page, and three probes.
 #![tactic(auto)]
 
-use libc::STDOUT_FILENO;
 use state::{Access, FaultPair, Outcome, Registers};
-
-fn say(text: &[u8]) {
-    io::write_all(STDOUT_FILENO, text);
-}
-
-fn say_word(word: u32) {
-    io::print_hex(STDOUT_FILENO, word as u64, 8);
-}
+use std::io;
 
 // A segment table at 4000 and a page table at 6000 that maps 00C05000 to the sensor's frame A000; a second table lies outside memory.
-fn tables(ram: &mut [u32; 11264]) {
+fn tables(rt: &impl Print, ram: &mut [u32; 11264]) -> io::Result<()> {
     ram[4099] = 0x6001;
     ram[4100] = 0x7FFFF001;
     ram[6149] = 0xA001;
     ram[10313] = 42;
-    say(b"Tables: segments at 00004000, pages at 00006000; the sensor stands at 0000a124.\n");
+    println!(rt; "Tables: segments at 00004000, pages at 00006000; the sensor stands at 0000a124.")
 }
 
 // One supervisor read, and how it ended.
 fn reading(
+    rt: &impl Print,
     u: Registers,
     patc: &mut [u32; 112],
     lines: &mut [u32; 1280],
     cells: &mut [u32; 4096],
     ram: &mut [u32; 11264],
-) -> Registers {
+) -> io::Result<Registers> {
     let rom = [0u32; 4];
     let pair = state::no_fault();
     let access = Access {
@@ -42,29 +35,24 @@ fn reading(
     let r = unit::access(u, pair, patc, lines, cells, ram, &rom, access);
     let answer = r.answer;
     let outcome = answer.outcome;
-    tell_reading(outcome, answer.words);
-    r.registers
+    tell_reading(rt, outcome, answer.words)?;
+    Ok(r.registers)
 }
 
-fn tell_reading(outcome: Outcome, words: u32) {
-    say(b"Read 00c05124: ");
+fn tell_reading(rt: &impl Print, outcome: Outcome, words: u32) -> io::Result<()> {
+    print!(rt; "Read 00c05124: ")?;
     match outcome {
-        Outcome::Word(word) => {
-            say(b"the sensor says ");
-            say_word(word);
-        }
+        Outcome::Word(word) => print!(rt; "the sensor says {word:08x}")?,
         Outcome::Failed(fault) => {
-            say(b"no reading, fault ");
-            say_word(fault.code);
-            say(b" at ");
-            say_word(fault.address);
+            print!(rt;
+                "no reading, fault {:08x} at {:08x}",
+                fault.code, fault.address
+            )?;
         }
-        Outcome::Idle => say(b"idle"),
-        Outcome::Written => say(b"written"),
+        Outcome::Idle => print!(rt; "idle")?,
+        Outcome::Written => print!(rt; "written")?,
     }
-    say(b"; words moved ");
-    say_word(words);
-    say(b".\n");
+    println!(rt; "; words moved {words:08x}.")
 }
 
 // Writes a register; no command that is used here moves the cache.
@@ -84,50 +72,53 @@ fn register(
 }
 
 // What a probe left in SSR and SAR.
-fn tell_probe(u: Registers) {
+fn tell_probe(rt: &impl Print, u: Registers) -> io::Result<()> {
     if words::bit(u.ssr, 0) {
-        say(b"found, physical address ");
+        print!(rt; "found, physical address ")?;
     } else if words::bit(u.ssr, 14) {
-        say(b"bus error, no answer; the table cannot be read at ");
+        print!(rt; "bus error, no answer; the table cannot be read at ")?;
     } else {
-        say(b"not found, no valid descriptor at ");
+        print!(rt; "not found, no valid descriptor at ")?;
     }
-    say_word(u.sar);
-    say(b", status ");
-    say_word(u.ssr);
-    say(b".\n");
+    println!(rt; "{:08x}, status {:08x}.", u.sar, u.ssr)
 }
 
 // A probe of a supervisor address.
 fn probe(
+    rt: &impl Print,
     u: Registers,
     patc: &mut [u32; 112],
     lines: &mut [u32; 1280],
     cells: &[u32; 4096],
     ram: &mut [u32; 11264],
     address: u32,
-) -> Registers {
-    say(b"Probe ");
-    say_word(address);
-    say(b": ");
+) -> io::Result<Registers> {
+    print!(rt; "Probe {address:08x}: ")?;
     let asked = register(u, patc, lines, cells, ram, 0x00C, address);
     let told = register(asked, patc, lines, cells, ram, 0x004, 0x24);
-    tell_probe(told);
-    told
+    tell_probe(rt, told)?;
+    Ok(told)
 }
 
-fn main() {
+fn main(rt: HostRuntime) -> io::Result<()> {
     let mut patc = [0u32; 112];
     let mut lines = [3u32; 1280];
     let mut cells = [0u32; 4096];
     let mut ram = [0u32; 11264];
-    tables(&mut ram);
+    tables(&rt, &mut ram)?;
     let fresh = state::reset(127);
     let ready = register(
         fresh, &mut patc, &mut lines, &cells, &mut ram, 0x200, 0x4001,
     );
-    let first = probe(ready, &mut patc, &mut lines, &cells, &mut ram, 0x00C05124);
-    let read = reading(first, &mut patc, &mut lines, &mut cells, &mut ram);
-    let second = probe(read, &mut patc, &mut lines, &cells, &mut ram, 0x00C06000);
-    probe(second, &mut patc, &mut lines, &cells, &mut ram, 0x01000124);
+    let first = probe(
+        &rt, ready, &mut patc, &mut lines, &cells, &mut ram, 0x00C05124,
+    )?;
+    let read = reading(&rt, first, &mut patc, &mut lines, &mut cells, &mut ram)?;
+    let second = probe(
+        &rt, read, &mut patc, &mut lines, &cells, &mut ram, 0x00C06000,
+    )?;
+    probe(
+        &rt, second, &mut patc, &mut lines, &cells, &mut ram, 0x01000124,
+    )?;
+    Ok(())
 }
