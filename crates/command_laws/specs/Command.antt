@@ -1,9 +1,8 @@
 -- A command as a program runs it: SAR written, then SCR. What a flush command does to lines and RAM is the sweep of its kind and range.
 use Rattle.std.specs.Prelude.{ℕ, ◌≡◌}
 use Rattle.std.proofs.Math.Path.{refl}
-use Rattle.std.proofs.Common.{ap, ◌∙◌}
+use Rattle.std.proofs.Common.{◌∙◌}
 use mathlib.Core.List.{List, [], ◌∷◌}
-use Rattle.state.specs.declared.Registers.{Registers}
 use Rattle.state.specs.Own.{own_scr}
 use Rattle.sweep.specs.declared.Kind.{Kind}
 use Rattle.sweep.specs.declared.Kind.TheVariants.{Invalidate, CopyBack, Both}
@@ -11,9 +10,9 @@ use Rattle.sweep.specs.declared.Range.{Range}
 use Rattle.sweep.specs.declared.Range.TheVariants.{Line, Page, Segment, All}
 use Rattle.sweep.specs.Sweep.{Sweep, sweep_of}
 use Rattle.commands.specs.declared.Command.TheVariants.{Flush}
-use Rattle.registers.specs.Registers.{with_scr, with_ssr, with_sar, set_register_of, set_fault_of, set_port_of}
-use Rattle.commands.specs.Commands.{command_of, range_of, flushed_of, flush_of, run_of}
-use Rattle.control.specs.Control.{Kept, kept, write_of}
+use Rattle.registers.specs.Registers.{with_scr, with_sar, set_register_of}
+use Rattle.commands.specs.Commands.{command_of, range_of, flush_of, run_of}
+use Rattle.control.specs.Control.{Kept, write_of}
 use Rattle.flush_laws.specs.Sweep.{flush_each}
 
 -- a register write on what earlier calls left

@@ -1,16 +1,16 @@
 -- What a flight carries, and how it goes on or ends.
-use Rattle.std.specs.Prelude.{ℕ, ◌+◌, Bool, true, false, ◌||◌, List, [], ◌∷◌, set, replicate, ltb}
+use Rattle.std.specs.Prelude.{ℕ, ◌+◌, Bool, false, ◌||◌, set, replicate, ltb}
 use Rattle.words.specs.Words.{pick, bit_of}
 use Rattle.memory.specs.declared.Moved.{Moved}
 use Rattle.state.specs.declared.Access.{Access}
 use Rattle.state.specs.declared.Transaction.{Transaction}
 use Rattle.state.specs.declared.Outcome.{Outcome}
-use Rattle.state.specs.declared.Outcome.TheVariants.{Idle, Word, Written, Failed}
+use Rattle.state.specs.declared.Outcome.TheVariants.{Idle, Failed}
 use Rattle.pages.specs.declared.Translation.{Translation}
 use Rattle.course.specs.declared.Course.{Course}
 use Rattle.course.specs.declared.Flight.{Flight}
 use Rattle.course.specs.declared.Stage.{Stage}
-use Rattle.course.specs.declared.Stage.TheVariants.{Done, Segment, Page, Update, Drop, Back, Fill, Store, Single}
+use Rattle.course.specs.declared.Stage.TheVariants.{Done}
 
 abbrev pub no_transaction : Transaction
 no_transaction = record { write = false; address = 0; words = 0; g = false; im = false; lk = false; ci = false }

@@ -1,7 +1,7 @@
 -- A host's calls at the doors lead from reached units to reached units: a refusal changes nothing, and any other call is the unit's.
 use Prim.Native.Nat.{ℕ, ◌^◌, ◌<◌}
-use Rattle.std.specs.Prelude.{◌≡◌, refl, Bool, true, false, not, List, eqb}
-use Rattle.std.proofs.Common.{sym, ap, ◌∙◌, subst}
+use Rattle.std.specs.Prelude.{◌≡◌, Bool, true, false, not, List, eqb}
+use Rattle.std.proofs.Common.{sym, ap, subst}
 use Rattle.std.proofs.Math.ListN.{length}
 use borrow.Author.Tests.{eq-eqb, eqb-true}
 use Rattle.words.specs.Words.{pick}

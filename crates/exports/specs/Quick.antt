@@ -1,5 +1,5 @@
 -- An access that only touches a line of the cache is answered as a call answers it.
-use Rattle.std.specs.Prelude.{ℕ, ◌<◌, Bool, not, ◌&&◌, List, [], ◌∷◌, ◌≡◌, eqb, leb, length}
+use Rattle.std.specs.Prelude.{ℕ, ◌<◌, Bool, not, ◌&&◌, List, ◌≡◌, eqb, length}
 use Rattle.std.proofs.Math.Bool.{true, false}
 use Rattle.std.proofs.lemmas.Bool.{false≢true}
 use Rattle.std.proofs.Math.Path.{refl, sym, ap}
@@ -10,7 +10,6 @@ use Rattle.state.specs.declared.FaultPair.{FaultPair}
 use Rattle.state.specs.declared.Registers.{Registers}
 use Rattle.lines.specs.Lines.{marked, used_at}
 use Rattle.cells.specs.Cells.{word_at, merged_at}
-use Rattle.registers.specs.Registers.{area_of}
 use Rattle.answers.specs.Answers.{plain_of}
 use Rattle.unit.specs.Unit.{access_of}
 use Rattle.hits.specs.declared.Hit.{Hit}

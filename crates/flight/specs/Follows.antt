@@ -1,29 +1,24 @@
 -- The machine follows the big steps: a flight that is run to its end ends as document 01's words say.
-use Prim.Native.Nat.{ℕ, zero, suc, ◌+◌, ◌-◌, ◌*◌, ◌/◌, ◌<◌}
+use Prim.Native.Nat.{ℕ, zero, suc}
 use Rattle.std.specs.Prelude.{◌≡◌, Bool, true, not, ◌&&◌, ◌||◌, List, length}
 use Rattle.std.proofs.Math.Path.{refl, ap}
-use Rattle.std.proofs.Common.{sym, ◌∙◌, arith}
 use Rattle.std.proofs.Math.Bool.{false}
 use Rattle.std.proofs.Math.Dec.{eqb, ltb}
 use Rattle.words.specs.Words.{pick, bit_of}
 use Rattle.lines.specs.Lines.{modified, state_of, tag_word, hit_of, victim_of}
 use Rattle.state.specs.declared.Access.{Access}
-use Rattle.pages.specs.declared.Translation.{Translation}
 use Rattle.lookup.specs.declared.Lookup.{Lookup}
 use Rattle.lookup.specs.declared.Lookup.TheVariants.{Found, Search, Violation}
 use Rattle.lookup.specs.declared.Walked.{Walked}
 use Rattle.lookup.specs.declared.Walked.TheVariants.{Update, Complete, Violation as Barred}
-use Rattle.lookup.specs.Lookup.{place_of, judge_of, walked_of}
 use Rattle.patc.specs.Patc.{Loaded, load_of}
 use Rattle.pages.specs.Pages.{page_word_of, frame_word_of}
 use Rattle.course.specs.declared.Course.{Course}
-use Rattle.course.specs.declared.Flight.{Flight}
 use Rattle.course.specs.declared.Stage.TheVariants.{Done}
 use Rattle.course.specs.Course.{fresh_of, with_want, with_translation, with_place, with_entry, with_descriptor, with_pointer, listed_of, searched_of, carried_of}
 use Rattle.course.specs.Next
 use Rattle.cache.specs.Cache
 use Rattle.flight.specs.Search
-use Rattle.flight.specs.Begin
 use Rattle.flight.specs.Steps
 use Rattle.course.specs.Next.{Lined, Cached, single_of, storing_of, filling_of, backing_of, dropping_of, read_hit_of}
 use Rattle.cache.specs.Cache.{inhibited_of, uncached_of, write_line_of, write_hit_of, miss_of, enter_at, enter_of}

@@ -1,5 +1,5 @@
 -- The memory's world, and a flight run over it: each turn moves the words of the one transaction that is wanted.
-use Rattle.std.specs.Prelude.{ℕ, zero, suc, Bool, true, false, List}
+use Rattle.std.specs.Prelude.{ℕ, zero, suc, List}
 use Rattle.words.specs.Words.{pick}
 use Rattle.memory.specs.declared.Moved.{Moved}
 use Rattle.memory.specs.declared.Read.{Read}

@@ -1,5 +1,5 @@
 -- A table search in small steps: what it wants next, and what follows each descriptor.
-use Rattle.std.specs.Prelude.{ℕ, Bool, true, false, List, ltb}
+use Rattle.std.specs.Prelude.{ℕ, true, false, List, ltb}
 use Rattle.words.specs.Words.{pick, bit_of}
 use Rattle.memory.specs.declared.Moved.{Moved}
 use Rattle.memory.specs.declared.Read.{Read}

@@ -6,10 +6,9 @@ use Rattle.memory.specs.Memory.{put_of}
 use Rattle.lines.specs.Lines.{state_of, modified, tag_word, line_address, hit_of, victim_of, marked, filled_of, used_at}
 use Rattle.cells.specs.Cells.{word_at, merged_at, line_words}
 use Rattle.state.specs.declared.Access.{Access}
-use Rattle.state.specs.declared.Fault.{Fault}
 use Rattle.state.specs.declared.Transaction.{Transaction}
 use Rattle.state.specs.declared.Outcome.{Outcome}
-use Rattle.state.specs.declared.Outcome.TheVariants.{Idle, Word, Written, Failed}
+use Rattle.state.specs.declared.Outcome.TheVariants.{Word, Written, Failed}
 use Rattle.pages.specs.declared.Translation.{Translation}
 use Rattle.lookup.specs.declared.Lookup.{Lookup}
 use Rattle.lookup.specs.declared.Lookup.TheVariants.{Found, Search, Violation}

@@ -3,7 +3,7 @@ use Rattle.std.specs.Prelude.{ℕ, ◌<◌, Bool, not, ◌&&◌, ◌||◌, List,
 use Rattle.std.proofs.Math.Bool.{true, false}
 use Rattle.std.proofs.lemmas.Bool.{false≢true}
 use Rattle.std.proofs.Math.Path.{refl, ap}
-use Rattle.std.proofs.Common.{sym, ◌∙◌}
+use Rattle.std.proofs.Common.{◌∙◌}
 use native.Mathlib.Omega.{arith}
 use borrow.Author.Tests.{lt-ltb, not-true, not-false}
 use Rattle.words.specs.Words.{pick, bit_of, keep_of}
@@ -25,7 +25,6 @@ use Rattle.driver.specs.Alone.{Memory, memory, alone}
 use Rattle.registers.specs.Registers.{area_of, with_pointer}
 use Rattle.answers.specs.Answers.{total_of, fault_of, plain_of}
 use Rattle.unit.specs.Unit.{Whole, whole, ended_by, mapped_of, access_of}
-use Rattle.hits.specs.declared.Way.{Way}
 use Rattle.hits.specs.declared.Hit.{Hit}
 use Rattle.hits.specs.Hits.{clear_for, way_of, page_way_of, no_way, found_of, kept_of, no_hit, line_at, hit_by, look_of}
 

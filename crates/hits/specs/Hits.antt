@@ -1,5 +1,5 @@
 -- An access that only touches a line of the cache: its way there by the area pointer, a port or an entry, and the line that it hits.
-use Rattle.std.specs.Prelude.{ℕ, Bool, true, false, not, ◌&&◌, ◌||◌, List, eqb, ltb}
+use Rattle.std.specs.Prelude.{ℕ, Bool, false, not, ◌&&◌, ◌||◌, List, eqb, ltb}
 use Rattle.words.specs.Words.{pick, bit_of}
 use Rattle.lines.specs.Lines.{state_of, tag_word, hit_of}
 use Rattle.pages.specs.declared.Translation.{Translation}

@@ -1,8 +1,8 @@
 -- How a unit, an access and its answer are laid out in plain arrays.
-use Rattle.std.specs.Prelude.{ℕ, zero, suc, ◌+◌, ◌%◌, Bool, List, [], ◌∷◌, ◌≡◌, refl, length, get_or, take, drop}
+use Rattle.std.specs.Prelude.{ℕ, zero, suc, ◌+◌, ◌%◌, List, [], ◌∷◌, ◌≡◌, refl, length, get_or, take, drop}
 use Rattle.std.proofs.Common.{sym, ap, ◌∙◌, suc-ne-zero}
 use Rattle.std.proofs.Math.Nat.{suc_inj}
-use Rattle.words.specs.Words.{pick, bit_of, flag_of}
+use Rattle.words.specs.Words.{bit_of, flag_of}
 use Rattle.state.specs.declared.Access.{Access}
 use Rattle.state.specs.declared.Answer.{Answer}
 use Rattle.state.specs.declared.Registers.{Registers}

@@ -1,5 +1,5 @@
 -- From logical to physical, points 3 to 6, and the end of a search.
-use Rattle.std.specs.Prelude.{ℕ, Bool, true, false, not, ◌&&◌, List, eqb, ltb}
+use Rattle.std.specs.Prelude.{ℕ, Bool, not, ◌&&◌, List, eqb, ltb}
 use Rattle.words.specs.Words.{pick, bit_of}
 use Rattle.state.specs.declared.Fault.{Fault}
 use Rattle.pages.specs.declared.Translation.{Translation}

@@ -1,7 +1,7 @@
 -- Laws of translations: the key of a port, and that the words of an entry have only own bits.
 use Rattle.std.specs.Prelude.{ℕ, zero, suc, ◌+◌, ◌*◌, ◌<◌, ◌≡◌, Bool, true, false, ◌&&◌, eqb}
 use Rattle.std.proofs.Common.{arith, eq-eqb, ne_eqb, eqb-true}
-use Rattle.words.specs.Words.{bits_of, bit_of, flag_of}
+use Rattle.words.specs.Words.{bits_of, flag_of}
 use Rattle.words.specs.Laws.{both_ways}
 use Rattle.state.specs.Own.{own_tag, own_frame, tag_fields, frame_fields}
 use Rattle.pages.specs.declared.Translation.{Translation}

@@ -1,10 +1,9 @@
 -- Laws of the page translations: the key of an entry, the free entry by trailing zeros, the bounds, and that no entry comes to stand twice.
 use Prim.Native.Nat.{ℕ, zero, suc, ◌+◌, ◌-◌, ◌*◌, ◌/◌, ◌%◌, ◌^◌, ◌<◌, ◌≤◌}
-use Rattle.std.specs.Prelude.{◌≡◌, Bool, not, ◌&&◌, List, ◌⊎◌, length, get_or, set, eqb, ltb}
+use Rattle.std.specs.Prelude.{◌≡◌, Bool, ◌&&◌, List, ◌⊎◌, length, set, eqb, ltb}
 use Rattle.std.proofs.Math.Path.{refl, subst}
 use Rattle.std.proofs.Common.{sym, ap, ◌∙◌, true≢false, inl, inr, add-one, suc-add, length-set, get_or-set_same, get_or-set_other, pow_mono}
 use Rattle.std.proofs.Math.Bool.{true, false}
-use Rattle.std.specs.Bool.{beq}
 use native.Mathlib.Omega.{arith}
 use Rattle.std.proofs.Math.Nat.{pow-suc, lt_of_lt_of_le}
 use Rattle.std.proofs.Math.Decide.{ℕ_discrete}
@@ -15,7 +14,7 @@ use Rattle.words.specs.Words.{pick, bits_of, bit_of}
 use Rattle.words.specs.Laws.{either, both_ways, and_left, and_right}
 use Rattle.state.specs.Own.{own_tag, own_pointer, pointer_small}
 use Rattle.pages.specs.Pages.{same, page_word_of}
-use Rattle.patc.specs.Patc.{page_word, frame_word, entry_hits, entry_from, entry_of, valid_of, map_of, free_from, free_of, put_of, Loaded, load_of}
+use Rattle.patc.specs.Patc.{page_word, entry_hits, entry_from, entry_of, valid_of, map_of, free_from, free_of, put_of, Loaded, load_of}
 
 -- ---- the key: one comparison tells valid, space and page together
 

@@ -1,7 +1,7 @@
 -- The page translations: 56 entries of a page word and a frame word.
-use Rattle.std.specs.Prelude.{ℕ, zero, suc, ◌+◌, ◌*◌, ◌/◌, ◌%◌, Bool, true, false, not, ◌&&◌, List, get_or, set, eqb, ltb}
+use Rattle.std.specs.Prelude.{ℕ, zero, suc, ◌+◌, ◌*◌, Bool, true, ◌&&◌, List, get_or, set, eqb, ltb}
 use Rattle.words.specs.Words.{pick, bits_of, bit_of, flag_of}
-use Rattle.state.specs.Own.{own_tag, own_pointer}
+use Rattle.state.specs.Own.{own_pointer}
 use Rattle.pages.specs.Pages.{same}
 use Rattle.patc.specs.declared.Range.{Range}
 use Rattle.patc.specs.declared.Range.TheVariants.{Page, Segment, All}

@@ -1,6 +1,6 @@
 -- Each call keeps a unit well formed, on any memory: an access, a register write, a snoop.
 use Prim.Native.Nat.{ℕ, zero, suc, ◌^◌, ◌<◌, ◌≤◌}
-use Rattle.std.specs.Prelude.{◌≡◌, Bool, false, ◌&&◌, List, eqb, ltb}
+use Rattle.std.specs.Prelude.{◌≡◌, Bool, ◌&&◌, List, eqb, ltb}
 use Rattle.std.proofs.Common.{sym, ◌∙◌, true≢false, ltb-true}
 use Rattle.std.proofs.Math.Bool.{true}
 use native.Mathlib.Omega.{arith}

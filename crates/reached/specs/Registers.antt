@@ -1,6 +1,6 @@
 -- A register write, a probe and a flush keep the registers well formed.
 use Prim.Native.Nat.{ℕ, ◌+◌, ◌*◌, ◌%◌, ◌^◌, ◌<◌, ◌≤◌}
-use Rattle.std.specs.Prelude.{◌≡◌, Bool, not, List, eqb, ltb, leb, set}
+use Rattle.std.specs.Prelude.{◌≡◌, Bool, not, List, eqb, ltb, leb}
 use Rattle.std.proofs.Common.{◌∙◌, subst}
 use Rattle.std.proofs.Math.Bool.{true, false}
 use native.Mathlib.Omega.{arith}

@@ -1,5 +1,5 @@
 -- Words of 32 bits stay so in every list that is written, and a failing address is one.
-use Rattle.std.specs.Prelude.{ℕ, zero, suc, ◌+◌, ◌-◌, ◌*◌, ◌^◌, ◌<◌, ◌≡◌, List, [], ◌∷◌, ltb, leb, length, get_or, set, take, drop}
+use Rattle.std.specs.Prelude.{ℕ, zero, suc, ◌+◌, ◌-◌, ◌*◌, ◌^◌, ◌<◌, List, [], ◌∷◌, ltb, leb, length, get_or, set, take, drop}
 use Rattle.std.proofs.Common.{◌∙◌, arith, length-set, get_or-drop}
 use Rattle.memory.specs.Laws.{length_put}
 use Rattle.words.specs.Laws.{either, merge_small}

@@ -1,5 +1,5 @@
 -- The registers by their offsets: IDR 000, SCR 004, SSR 008, SAR 00C, SCTR 104, PFSR 108, PFAR 10C, SAPR 200, UAPR 204, BWP0 to BWP7 400 to 41C.
-use Rattle.std.specs.Prelude.{ℕ, ◌-◌, ◌/◌, Bool, true, false, ◌&&◌, List, set, eqb, leb}
+use Rattle.std.specs.Prelude.{ℕ, ◌-◌, ◌/◌, Bool, set, eqb, leb}
 use Rattle.words.specs.Words.{pick}
 use Rattle.state.specs.Own.{own_idr, own_scr, own_ssr, own_sctr, own_status, own_area}
 use Rattle.state.specs.declared.Registers.{Registers}

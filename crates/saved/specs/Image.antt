@@ -1,5 +1,5 @@
 -- The saved image, edition 1: five tagged fields in a row, 22,039 bytes.
-use Rattle.std.specs.Prelude.{ℕ, ◌+◌, List, [], ◌∷◌, ◌++◌, ltb, length, drop}
+use Rattle.std.specs.Prelude.{ℕ, List, [], ◌∷◌, ◌++◌, ltb, length, drop}
 use Rattle.words.specs.Words.{pick}
 use Rattle.fields.specs.Fields.{bytes_of, word_at, words_at, field_of, row_of}
 use Rattle.state.specs.declared.Registers.{Registers}

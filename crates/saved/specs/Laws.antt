@@ -1,5 +1,5 @@
 -- What the functions' proofs cite: stores of own words, the row of fields, tests on bytes, what saving and restoring answer.
-use Rattle.std.specs.Prelude.{ℕ, suc, ◌+◌, ◌-◌, ◌*◌, ◌<◌, ◌≤◌, ◌≡◌, refl, Bool, true, false, not, List, [], ◌++◌, eqb, length, get_or}
+use Rattle.std.specs.Prelude.{ℕ, suc, ◌+◌, ◌*◌, ◌<◌, ◌≤◌, ◌≡◌, refl, Bool, true, false, not, List, [], ◌++◌, eqb, length, get_or}
 use Rattle.std.proofs.Common.{sym, ap, ◌∙◌, append-nil, arith, lt-ltb, le-ltb, eq-eqb, ne_eqb, eqb-true, drop_of_length-le, drop-cons}
 use Rattle.std.proofs.Math.ListN.{length-append, drop}
 use Rattle.std.proofs.Math.Seq.{sets}

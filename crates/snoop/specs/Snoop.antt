@@ -1,5 +1,5 @@
 -- A snoop acts if SE and G are set and the line hits; otherwise it answers "clear".
-use Rattle.std.specs.Prelude.{ℕ, Bool, true, false, ◌&&◌, List, ltb}
+use Rattle.std.specs.Prelude.{ℕ, Bool, ◌&&◌, List, ltb}
 use Rattle.words.specs.Words.{pick}
 use Rattle.memory.specs.Memory.{Wrote, write_line_of}
 use Rattle.lines.specs.Lines.{modified, tag_word, line_address, hit_of, marked}

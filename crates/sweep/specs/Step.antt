@@ -8,8 +8,8 @@ use Rattle.cells.specs.Cells.{line_words}
 use Rattle.sweep.specs.declared.Kind.{Kind}
 use Rattle.sweep.specs.declared.Kind.TheVariants.{Invalidate, CopyBack, Both}
 use Rattle.sweep.specs.declared.Range.{Range}
-use Rattle.sweep.specs.declared.Range.TheVariants.{Line, Page, Segment, All}
-use Rattle.sweep.specs.Sweep.{covers_of, Sweep, swept, well_of, stopped_of, copied_of, line_of}
+use Rattle.sweep.specs.declared.Range.TheVariants.{Line, Page, Segment}
+use Rattle.sweep.specs.Sweep.{covers_of, swept, well_of, stopped_of, copied_of, line_of}
 
 module _ (r : Range) (sar : ℕ) (cs : List ℕ) (p : ℕ) (ls ram : List ℕ) where
   abbrev w : ℕ

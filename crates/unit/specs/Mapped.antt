@@ -1,6 +1,6 @@
 -- A flight that the driver ran to its end has come to where the big steps end.
-use Rattle.std.specs.Prelude.{ℕ, ◌≡◌, refl, List}
-use Rattle.std.proofs.Common.{sym, ◌∙◌}
+use Rattle.std.specs.Prelude.{ℕ, ◌≡◌, List}
+use Rattle.std.proofs.Common.{◌∙◌}
 use Rattle.std.proofs.Math.Path.{ap}
 use Rattle.state.specs.declared.Access.{Access}
 use Rattle.state.specs.declared.Registers.{Registers}

@@ -6,7 +6,7 @@ use Rattle.state.specs.declared.Registers.{Registers}
 use Rattle.state.specs.declared.FaultPair.{FaultPair}
 use Rattle.state.specs.declared.Outcome.TheVariants.{Idle}
 use Rattle.state.specs.Own.{own_ssr}
-use Rattle.flight.specs.Steps.{Scene, Ended, access_of as steps_of, opening}
+use Rattle.flight.specs.Steps.{Ended, access_of as steps_of, opening}
 use Rattle.snoop.specs.declared.Snooped.{Snooped}
 use Rattle.snoop.specs.declared.Snooped.TheVariants.{Clear, Retry, Failed}
 use Rattle.snoop.specs.Snoop.{Snoop, snoop_of as line_snoop}

@@ -1,7 +1,7 @@
 -- Laws of a word's bytes.
 use Rattle.std.specs.Prelude.{ℕ, ◌/◌, ◌%◌, ◌^◌, ◌<◌, ◌≡◌, refl, Bool, true, false, ◌&&◌, ◌||◌}
 use Rattle.std.proofs.Common.{sym, ap, ◌∙◌, arith, shr-shr}
-use Rattle.words.specs.Words.{pick, bit_of, byte_of, lane_of, join_of, merge_of}
+use Rattle.words.specs.Words.{pick, byte_of, lane_of, join_of, merge_of}
 
 -- what holds of both choices, each where its test came out so, holds of the one picked
 pub either {ℓ} : {A : Type ℓ} (P : A → Type 0) (b : Bool) {x y : A} → (b ≡ true → P x) → (b ≡ false → P y) → P (pick b x y)

@@ -1,7 +1,6 @@
 use borrow.Author.Tests.{tests}
 use borrow.Author.Rules.{rules}
 use Rattle.commands.specs.Commands.{clearing_of}
-use borrow.Author.Tests.{ne_eqb}
 use Rattle.commands.proofs.clearing.Goals as goal
 
 pub returns-in-1 : goal.returns-in-1
@@ -19,4 +18,3 @@ returns-in-3 c = rw c.in-3.is
 pub returns-in_default : goal.returns-in_default
 unfolding clearing_of
 returns-in_default c = search (tests, rules)
-

@@ -1,7 +1,6 @@
 use borrow.Author.Tests.{tests}
 use borrow.Author.Rules.{rules}
 use Rattle.commands.specs.Commands.{command_of}
-use borrow.Author.Tests.{ne_eqb}
 use Rattle.commands.proofs.decode.Goals as goal
 
 pub returns-in-5 : goal.returns-in-5
@@ -35,4 +34,3 @@ returns-in-13 c = rw (c.clearing-in-13.ensures, ← c.bits-low.ensures.0, ← c.
 pub returns-in_default : goal.returns-in_default
 unfolding command_of
 returns-in_default c = search (tests, rules)
-

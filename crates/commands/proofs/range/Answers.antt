@@ -1,7 +1,6 @@
 use borrow.Author.Tests.{tests}
 use borrow.Author.Rules.{rules}
 use Rattle.commands.specs.Commands.{range_of}
-use borrow.Author.Tests.{ne_eqb}
 use Rattle.commands.proofs.range.Goals as goal
 
 pub returns-in-0 : goal.returns-in-0
@@ -19,4 +18,3 @@ returns-in-2 c = rw c.in-2.is
 pub returns-in_default : goal.returns-in_default
 unfolding range_of
 returns-in_default c = search (tests, rules)
-

@@ -1,5 +1,5 @@
 -- `restore` meets its contract: a refusal leaves all as it was, and an image that is taken is read whole.
-use Rattle.std.proofs.Common.{◌≡◌, ℕ, List, length, sym, ◌∙◌, arith, rules, eqb, true}
+use Rattle.std.proofs.Common.{◌≡◌, ℕ, List, length, sym, ◌∙◌, arith, rules}
 use Rattle.saved.specs.Chip.{chip}
 use Rattle.saved.specs.Verdict.{verdict_of}
 use Rattle.saved.specs.Laws.{taken_passes, restore_refused, restore_done}

@@ -1,4 +1,4 @@
-use Rattle.std.proofs.Common.{◌≡◌, ℕ, Bool, drop, sym, eqb, rules, add-one, drop-cons}
+use Rattle.std.proofs.Common.{◌≡◌, ℕ, Bool, sym, eqb, rules, add-one, drop-cons}
 use lib.ListN.{drop_of_length-le}
 use borrow.Author.Tests.{eq-eqb, ne_eqb}
 use Rattle.pages.specs.Pages.{port_of, port_hits, port_key, block_key}

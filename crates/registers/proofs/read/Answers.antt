@@ -1,5 +1,5 @@
 use Rattle.registers.specs.Registers.{read_of}
-use borrow.Author.Tests.{ne_eqb, tests}
+use borrow.Author.Tests.{tests}
 use borrow.Author.Rules.{rules}
 use Rattle.registers.proofs.read.Goals as goal
 

@@ -1,6 +1,5 @@
 use mathlib.Core.Path.{◌∙◌}
 use native.Mathlib.Omega.{arith}
-use borrow.Author.Tests.{not-true, not-false}
 use Rattle.saved.specs.Below.{below_pass, below_fail, below_none}
 use Rattle.saved.proofs.tests.all_apart.Goals as goal
 
