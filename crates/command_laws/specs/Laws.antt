@@ -15,7 +15,8 @@ use Rattle.control.specs.Control.{Kept}
 use Rattle.flush_laws.specs.Sweep.{Fits, flush_each, flush_of}
 use Rattle.flush_laws.specs.Ranges.{lines_of, pages_of, segments_of}
 use Rattle.flush_laws.specs.Held.{memory_of, held_of}
-use Rattle.flush_laws.specs.Laws.{segment_pages, page_lines, all_segments, flush_again, copy_then_invalidate, copy_back_holds, joint_holds_all}
+use Rattle.flush_laws.specs.Laws.{page_lines, all_segments, copy_then_invalidate, copy_back_holds, joint_holds_all}
+use Rattle.flush_laws.proofs.Laws.{segment_pages, flush_again}
 use Rattle.command_laws.specs.Command.{command, commands, Asks, flush_lines, flush_ram, each_lines, each_ram}
 
 -- the same lines and RAM

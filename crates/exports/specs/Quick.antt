@@ -13,7 +13,8 @@ use Rattle.cells.specs.Cells.{word_at, merged_at}
 use Rattle.answers.specs.Answers.{plain_of}
 use Rattle.unit.specs.Unit.{access_of}
 use Rattle.hits.specs.declared.Hit.{Hit}
-use Rattle.hit_laws.specs.Laws.{read_at, written_at, touched_at, look_right}
+use Rattle.hit_laws.specs.Laws.{read_at, written_at, touched_at}
+use Rattle.hit_laws.proofs.Laws.{look_right}
 use Rattle.refusals.specs.Refusals.{access_refusal}
 use Rattle.calls.specs.Calls.{access_taken, access_by as done_by}
 use Rattle.layout.specs.Layout.{registers_of, unit_of, access_as, bits_of, reply_of, unit_kept}

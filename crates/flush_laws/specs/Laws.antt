@@ -13,11 +13,11 @@ use Rattle.sweep.specs.declared.Kind.{Kind}
 use Rattle.sweep.specs.declared.Kind.TheVariants.{Invalidate, CopyBack, Both}
 use Rattle.sweep.specs.declared.Range.{Range}
 use Rattle.sweep.specs.declared.Range.TheVariants.{Line, Page, Segment, All}
-use Rattle.sweep.specs.Sweep.{covers_of, Sweep, swept}
-use Rattle.flush_laws.specs.Sweep.{◌∪◌, ends_alike, flush_by, flush_of, sweep_by_lem, Fits, and_then, flush_each, named}
+use Rattle.sweep.specs.Sweep.{covers_of, Sweep}
+use Rattle.flush_laws.specs.Sweep.{◌∪◌, flush_by, flush_of, sweep_by_lem, Fits, and_then, flush_each, named}
 use Rattle.flush_laws.specs.Union.{reach_of, union, each_named}
-use Rattle.flush_laws.specs.Twice.{again, joint, joint_only}
-use Rattle.flush_laws.specs.Ranges.{Names, lines_of, pages_of, segments_of, covers_line, pages_named, lines_named, segments_named}
+use Rattle.flush_laws.specs.Twice.{joint, joint_only}
+use Rattle.flush_laws.specs.Ranges.{Names, lines_of, segments_of, covers_line, lines_named, segments_named}
 use Rattle.flush_laws.specs.Held.{memory_of, held_of, copied_held, joint_held}
 
 -- ---- ranges. Needed: each covered modified line lies in RAM (`Fits`); for invalidate nothing (`invalidate_fits`)
@@ -37,11 +37,6 @@ module _ (k : Kind) (cs ls ram : List ℕ) (size : length ls ≡ 1280) where
       ∙ ap (λ (c : ℕ → Bool). flush_by k c cs ls ram) same
       ∙ sym (sweep_by_lem k whole sar cs ls ram 1024)
 
-  -- "segment = its pages in any order": its 1,024 pages
-  pub segment_pages : (sar : ℕ) (sars : List ℕ) → Perm sars (pages_of sar) → Fits k (covers_of Segment sar) ls ram
-      → flush_each k Page cs sars ls ram ≡ flush_of k Segment sar cs ls ram
-  segment_pages sar sars perm = flush_parts Page Segment sar sars (pages_named sar sars perm)
-
   -- "page = its lines in any order": its 256 lines
   pub page_lines : (sar : ℕ) (sars : List ℕ) → Perm sars (lines_of sar) → Fits k (covers_of Page sar) ls ram
       → flush_each k Line cs sars ls ram ≡ flush_of k Page sar cs ls ram
@@ -51,15 +46,6 @@ module _ (k : Kind) (cs ls ram : List ℕ) (size : length ls ≡ 1280) where
   pub all_segments : (sar : ℕ) (sars : List ℕ) → Perm sars segments_of → Fits k (covers_of All sar) ls ram
       → flush_each k Segment cs sars ls ram ≡ flush_of k All sar cs ls ram
   all_segments sar sars perm = flush_parts Segment All sar sars (segments_named sar sars perm)
-
--- ---- "a second like flush changes neither lines nor memory". Needed: nothing. Where the first has stopped, the second stops at the same line
-
-module _ (k : Kind) (r : Range) (sar : ℕ) (cs ls ram : List ℕ) (size : length ls ≡ 1280) where
-  abbrev once : Sweep
-  once = flush_of k r sar cs ls ram
-
-  pub flush_again : flush_of k r sar cs once.lines once.ram ≡ swept (ends_alike once.flushed) once.lines once.ram
-  flush_again = rw (sweep_by_lem k r sar cs ls ram, sweep_by_lem k r sar) (again k (covers_of r sar) cs ls ram size)
 
 -- ---- "copy back then invalidate = the joint command". Needed: each covered modified line lies in RAM
 

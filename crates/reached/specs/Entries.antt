@@ -10,7 +10,7 @@ use Rattle.std.proofs.Math.ListN.{length, length-set}
 use Rattle.std.proofs.lemmas.Bool.{eqb-false}
 use Rattle.words.specs.Words.{bits_of, bit_of, flag_of}
 use Rattle.words.specs.Laws.{either}
-use Rattle.state.specs.Own.{own_tag, own_pointer, pointer_small, tag_fields}
+use Rattle.state.specs.Own.{own_tag, tag_fields}
 use Rattle.pages.specs.declared.Translation.{Translation}
 use Rattle.patc.specs.declared.Range.{Range}
 use Rattle.pages.specs.Pages.{same, page_word_of, frame_word_of}
@@ -53,13 +53,8 @@ module _ (ps : List ℕ) (g : GoodEntries ps) (address : ℕ) (s : Bool) (t : Tr
       record { size = length_put ps _ _ _ ∙ g.size; own = put_own ps _ address s t g.own; alone = renew_alone ps g.size address s (frame_word_of t) h g.alone }
 
 -- the pointer stays at most 55
-stepped_small : (at : ℕ) → at ≤ 55 → stepped_of at ≤ 55
+pub stepped_small : (at : ℕ) → at ≤ 55 → stepped_of at ≤ 55
 stepped_small at h = either (λ (n : ℕ). n ≤ 55) (eqb at 55) (λ _. omega arith) (λ e. let ne : at ≡ 55 → ⊥ = eqb-false at 55 e in omega arith)
-
-pub load_pointer : (ps : List ℕ) (pointer page frame : ℕ) → pointer ≤ 55 → (load_of ps pointer page frame).pointer ≤ 55
-unfolding load_of
-load_pointer ps pointer page frame h =
-    either (λ (l : Loaded). l.pointer ≤ 55) (ltb (free_of ps) 56) (λ _. h) (λ _. stepped_small (own_pointer pointer) (pointer_small pointer))
 
 -- ---- V cleared
 

@@ -2,7 +2,6 @@ pub mod Good
 pub mod Directory
 pub mod Entries
 pub mod Stores
-pub mod Steps
 pub mod Registers
 pub mod Calls
 pub mod Fresh

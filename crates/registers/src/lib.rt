@@ -145,6 +145,7 @@ fn set_fault(pair: FaultPair, offset: u32, value: u32) -> FaultPair
 }
 
 // A write to any other register but SCR; writes to IDR and to other offsets do nothing.
+#[tactic(auto, unfolding(crate::specs::Registers::set_register_of))]
 fn set_register(u: Registers, offset: u32, value: u32) -> Registers
     ensures { result ≡ set_register_of u offset value }
 {

@@ -35,7 +35,8 @@ use Rattle.driver.specs.Alone.{Memory, memory, alone}
 use Rattle.fields.specs.Fields.{Words}
 use Rattle.reached.specs.Good.{GoodEntries, GoodLines, GoodCells}
 use Rattle.reached.specs.Directory.{marked_good, dropped_good, filled_good, filled_valid, used_good, hit_of_lem, miss_of_lem}
-use Rattle.reached.specs.Entries.{load_good, renew_good, load_pointer}
+use Rattle.reached.specs.Entries.{load_good, renew_good}
+use Rattle.reached.proofs.Pointer.{load_pointer}
 use Rattle.reached.specs.Stores.{merged_good, put_good, line_words_lem, part_words, word_ram, line_ram, read_fails, shown_fails, word_fails, line_fails}
 
 -- ---- an access on its way, and at its end

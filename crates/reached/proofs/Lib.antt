@@ -1,0 +1,4 @@
+pub mod Pointer
+pub mod Steps
+pub mod Access
+pub mod Reached
