@@ -39,11 +39,11 @@ pub fn take_drop(c: Course, lines: &mut [u32; 1280], moved: Moved) -> Flight
 pub fn take_fill(
     c: Course,
     lines: &mut [u32; 1280],
-    cells: &mut [u32],
+    cells: &mut [u32; 4096],
     part: &[u32],
     moved: Moved,
 ) -> Flight
-    requires { (c.place < 1024) × (length cells.old ≡ 4096) }
+    requires { c.place < 1024 }
     ensures { (cached result lines.new cells.new ≡ fill_of c lines.old cells.old part.now moved) × (result.course.place < 1024) }
 {
     let d = course::listed(c, moved);
@@ -71,8 +71,13 @@ fn settle(c: Course, lines: &mut [u32; 1280])
 }
 
 // After the word's write to memory: the line takes it too. A failed memory write changes no line.
-pub fn take_store(c: Course, lines: &mut [u32; 1280], cells: &mut [u32], moved: Moved) -> Flight
-    requires { (c.place < 1024) × (length cells.old ≡ 4096) }
+pub fn take_store(
+    c: Course,
+    lines: &mut [u32; 1280],
+    cells: &mut [u32; 4096],
+    moved: Moved,
+) -> Flight
+    requires { c.place < 1024 }
     ensures { (cached result lines.new cells.new ≡ store_of c lines.old cells.old moved) × (result.course.place < 1024) }
 {
     let d = course::listed(c, moved);

@@ -32,8 +32,8 @@ fn uncached(c: Course, p: usize, lines: &mut [u32; 1280]) -> Flight
 }
 
 // The line alone takes the word: state 1.
-fn write_line(c: Course, p: usize, lines: &mut [u32; 1280], cells: &mut [u32]) -> Flight
-    requires { (p < 1024) × (c.place < 1024) × (length cells.old ≡ 4096) }
+fn write_line(c: Course, p: usize, lines: &mut [u32; 1280], cells: &mut [u32; 4096]) -> Flight
+    requires { (p < 1024) × (c.place < 1024) }
     ensures { (cached result lines.new cells.new ≡ write_line_of c p lines.old cells.old) × (result.course.place < 1024) }
 {
     cells::merge(cells, p, c.t.address, c.access.enables, c.access.word);
@@ -43,8 +43,8 @@ fn write_line(c: Course, p: usize, lines: &mut [u32; 1280], cells: &mut [u32]) -
 }
 
 // Write hit: WT, and a global line in state 2, write memory first.
-fn write_hit(c: Course, p: usize, lines: &mut [u32; 1280], cells: &mut [u32]) -> Flight
-    requires { (p < 1024) × (c.place < 1024) × (length cells.old ≡ 4096) }
+fn write_hit(c: Course, p: usize, lines: &mut [u32; 1280], cells: &mut [u32; 4096]) -> Flight
+    requires { (p < 1024) × (c.place < 1024) }
     ensures { (cached result lines.new cells.new ≡ write_hit_of c p lines.old cells.old) × (result.course.place < 1024) }
 {
     let state = lines::state(lines::tag_word(lines, p));
@@ -68,8 +68,8 @@ fn miss(c: Course, lines: &[u32; 1280]) -> Flight
 }
 
 // The cache's part of an access whose translation stands.
-pub fn enter(c: Course, lines: &mut [u32; 1280], cells: &mut [u32]) -> Flight
-    requires { (c.place < 1024) × (length cells.old ≡ 4096) }
+pub fn enter(c: Course, lines: &mut [u32; 1280], cells: &mut [u32; 4096]) -> Flight
+    requires { c.place < 1024 }
     ensures { (cached result lines.new cells.new ≡ enter_of c lines.old cells.old) × (result.course.place < 1024) }
 {
     let p = lines::hit(lines, c.t.address);

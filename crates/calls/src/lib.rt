@@ -102,6 +102,9 @@ pub fn access(
     if number != 0 {
         return access_refused(number, u, pair);
     }
+    let Some(cells) = cells.as_mut_array() else {
+        unreachable!();
+    };
     access_taken(unit::access(u, pair, patc, lines, cells, ram, rom, access))
 }
 
@@ -137,6 +140,9 @@ pub fn snoop(
             answer: Snooped::Clear,
         };
     }
+    let Some(cells) = cells.as_array() else {
+        unreachable!();
+    };
     snoop_reply(0, unit::snoop(u, lines, cells, ram, address, g, im))
 }
 
@@ -189,5 +195,8 @@ pub fn write_register(
     if number != 0 {
         return write_call(number, u, pair, 0);
     }
+    let Some(cells) = cells.as_array() else {
+        unreachable!();
+    };
     write_taken(control::write_register(u, pair, patc, lines, cells, ram, rom, offset, value))
 }

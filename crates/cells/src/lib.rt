@@ -20,16 +20,16 @@ fn cell_at(p: usize, address: u32) -> usize
 }
 
 // The word of an address in one line.
-pub fn word(cells: &[u32], p: usize, address: u32) -> u32
-    requires { (p < 1024) × (length cells.now ≡ 4096) }
+pub fn word(cells: &[u32; 4096], p: usize, address: u32) -> u32
+    requires { p < 1024 }
     ensures { result ≡ word_at cells.now p address }
 {
     cells[cell_at(p, address)]
 }
 
 // Takes the enabled bytes of a word onto the one that a line holds for an address.
-pub fn merge(cells: &mut [u32], p: usize, address: u32, enables: u32, word: u32)
-    requires { (p < 1024) × (length cells.old ≡ 4096) }
+pub fn merge(cells: &mut [u32; 4096], p: usize, address: u32, enables: u32, word: u32)
+    requires { p < 1024 }
     ensures { cells.new ≡ merged_at cells.old p address enables word }
 {
     let at = cell_at(p, address);
@@ -37,8 +37,8 @@ pub fn merge(cells: &mut [u32], p: usize, address: u32, enables: u32, word: u32)
 }
 
 // The four words of one line, as they stand, for a copyback.
-pub fn line_words(cells: &[u32], p: usize) -> &[u32]
-    requires { (p < 1024) × (length cells.now ≡ 4096) }
+pub fn line_words(cells: &[u32; 4096], p: usize) -> &[u32]
+    requires { p < 1024 }
     ensures { (result.now ≡ line_words cells.now p) × (length result.now ≡ 4) }
 {
     let at = p * 4;

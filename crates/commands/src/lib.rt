@@ -87,10 +87,9 @@ fn flush(
     kind: Kind,
     range: sweep::Range,
     lines: &mut [u32; 1280],
-    cells: &[u32],
+    cells: &[u32; 4096],
     ram: &mut [u32],
 ) -> Ran
-    requires { length cells.now ≡ 4096 }
     ensures { flush_ran result lines.new ram.new ≡ flush_of u kind range lines.old cells.now ram.old }
 {
     let r = flush::flush(kind, range, u.sar, lines, cells, ram);
@@ -115,11 +114,10 @@ pub fn run(
     u: Registers,
     patc: &mut [u32; 112],
     lines: &mut [u32; 1280],
-    cells: &[u32],
+    cells: &[u32; 4096],
     ram: &mut [u32],
     rom: &[u32],
 ) -> Ran
-    requires { length cells.now ≡ 4096 }
     ensures { commanded result patc.new lines.new ram.new ≡ run_of u (command_of u.scr) patc.old lines.old cells.now ram.old rom.now }
 {
     let command = decode(u.scr);

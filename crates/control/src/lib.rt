@@ -14,13 +14,12 @@ pub fn write_register(
     pair: FaultPair,
     patc: &mut [u32; 112],
     lines: &mut [u32; 1280],
-    cells: &[u32],
+    cells: &[u32; 4096],
     ram: &mut [u32],
     rom: &[u32],
     offset: u32,
     value: u32,
 ) -> Stored
-    requires { length cells.now ≡ 4096 }
     ensures { kept result patc.new lines.new ram.new ≡ write_of u pair patc.old lines.old cells.now ram.old rom.now offset value }
 {
     if offset == 4 {
@@ -45,12 +44,11 @@ pub fn control(
     pair: FaultPair,
     patc: &mut [u32; 112],
     lines: &mut [u32; 1280],
-    cells: &[u32],
+    cells: &[u32; 4096],
     ram: &mut [u32],
     rom: &[u32],
     access: Access,
 ) -> Accessed
-    requires { length cells.now ≡ 4096 }
     ensures { controlled result patc.new lines.new ram.new ≡ control_of u pair patc.old lines.old cells.now ram.old rom.now access }
 {
     if reaches(u, access) {

@@ -62,8 +62,8 @@ pub fn dropping(c: Course, word: u32) -> Flight
 }
 
 // The word that a line holds, of which only the enabled bytes are kept; the line is used.
-pub fn read_hit(c: Course, p: usize, lines: &mut [u32; 1280], cells: &[u32]) -> Flight
-    requires { (p < 1024) × (c.place < 1024) × (length cells.now ≡ 4096) }
+pub fn read_hit(c: Course, p: usize, lines: &mut [u32; 1280], cells: &[u32; 4096]) -> Flight
+    requires { (p < 1024) × (c.place < 1024) }
     ensures { (lined result lines.new ≡ read_hit_of c p lines.old cells.now) × (result.course.place < 1024) }
 {
     let word = cells::word(cells, p, c.t.address);

@@ -21,11 +21,11 @@ fn page(
     c: Course,
     patc: &mut [u32; 112],
     lines: &mut [u32; 1280],
-    cells: &mut [u32],
+    cells: &mut [u32; 4096],
     ram: &[u32],
     rom: &[u32],
 ) -> Flight
-    requires { (c.place < 1024) × (length cells.old ≡ 4096) }
+    requires { c.place < 1024 }
     ensures { (flown result patc.new lines.new cells.new ≡ page_of c patc.old lines.old cells.old (read_of ram.now rom.now c.want.address)) × (result.course.place < 1024) }
 {
     let read = memory::read_word(ram, rom, c.want.address);
@@ -36,10 +36,10 @@ fn update(
     c: Course,
     patc: &mut [u32; 112],
     lines: &mut [u32; 1280],
-    cells: &mut [u32],
+    cells: &mut [u32; 4096],
     ram: &mut [u32],
 ) -> Flight
-    requires { (c.place < 1024) × (length cells.old ≡ 4096) }
+    requires { c.place < 1024 }
     ensures { (flown result patc.new lines.new cells.new ≡ update_of c patc.old lines.old cells.old (write_word_of ram.old c.want.address 15 c.descriptor).moved) × (ram.new ≡ (write_word_of ram.old c.want.address 15 c.descriptor).ram) × (result.course.place < 1024) }
 {
     let moved = memory::write_word(ram, c.want.address, 15, c.descriptor);
@@ -51,11 +51,11 @@ pub fn turn(
     f: Flight,
     patc: &mut [u32; 112],
     lines: &mut [u32; 1280],
-    cells: &mut [u32],
+    cells: &mut [u32; 4096],
     ram: &mut [u32],
     rom: &[u32],
 ) -> Flight
-    requires { (f.course.place < 1024) × (length cells.old ≡ 4096) }
+    requires { f.course.place < 1024 }
     ensures { (system result patc.new lines.new cells.new (memory ram.new rom.now) ≡ turn_of alone (system f patc.old lines.old cells.old (memory ram.old rom.now))) × (result.course.place < 1024) }
 {
     let c = f.course;
@@ -73,11 +73,11 @@ pub fn run(
     f: Flight,
     patc: &mut [u32; 112],
     lines: &mut [u32; 1280],
-    cells: &mut [u32],
+    cells: &mut [u32; 4096],
     ram: &mut [u32],
     rom: &[u32],
 ) -> Flight
-    requires { (f.course.place < 1024) × (length cells.old ≡ 4096) }
+    requires { f.course.place < 1024 }
     ensures { system result patc.new lines.new cells.new (memory ram.new rom.now) ≡ left_of alone 6 (system f patc.old lines.old cells.old (memory ram.old rom.now)) }
 {
     let mut g = f;

@@ -29,7 +29,7 @@ fn any_access(
     pair: FaultPair,
     patc: &mut [u32; 112],
     lines: &mut [u32; 1280],
-    cells: &mut [u32],
+    cells: &mut [u32; 4096],
     ram: &mut [u32],
     rom: &[u32],
     address: u32,
@@ -38,7 +38,6 @@ fn any_access(
     word: u32,
     reply: &mut [u32; 24],
 ) -> Called
-    requires { length cells.old ≡ 4096 }
     ensures { access_out result.number unit.new result.pair patc.new lines.new cells.new ram.new reply.new ≡ access_to unit.old pair patc.old lines.old cells.old ram.old rom.now address kind enables word reply.old }
 {
     let u = layout::registers(unit);
@@ -68,6 +67,9 @@ pub fn access(
     if number != 0 {
         return Called { pair, number };
     }
+    let Some(cells) = cells.as_mut_array() else {
+        unreachable!();
+    };
     let hit = quick::look(unit, patc, lines, address, kind, enables);
     if hit.place < 1024 {
         quick::answer(lines, cells, hit, words::bit(kind, 6), enables, word, reply);

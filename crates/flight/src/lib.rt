@@ -12,8 +12,8 @@ use lookup::Lookup;
 use state::{Access, Outcome};
 
 // Goes on with the translation, ends in a fault, or searches the tables.
-fn go(c: Course, next: Lookup, lines: &mut [u32; 1280], cells: &mut [u32]) -> Flight
-    requires { (c.place < 1024) × (length cells.old ≡ 4096) }
+fn go(c: Course, next: Lookup, lines: &mut [u32; 1280], cells: &mut [u32; 4096]) -> Flight
+    requires { c.place < 1024 }
     ensures { (cached result lines.new cells.new ≡ go_of c next lines.old cells.old) × (result.course.place < 1024) }
 {
     match next {
@@ -34,9 +34,8 @@ pub fn begin(
     pointer: u32,
     patc: &[u32; 112],
     lines: &mut [u32; 1280],
-    cells: &mut [u32],
+    cells: &mut [u32; 4096],
 ) -> Flight
-    requires { length cells.old ≡ 4096 }
     ensures { (cached result lines.new cells.new ≡ begin_of access area ports.now pointer patc.now lines.old cells.old) × (result.course.place < 1024) }
 {
     let c = course::fresh(access, area, pointer);

@@ -50,8 +50,13 @@ fn updating(c: Course, t: Translation, descriptor: u32) -> Flight
 }
 
 // Loads an entry for the translation that stands, or renews the one that was hit, and goes to the cache.
-fn loaded(c: Course, patc: &mut [u32; 112], lines: &mut [u32; 1280], cells: &mut [u32]) -> Flight
-    requires { (c.place < 1024) × (length cells.old ≡ 4096) }
+fn loaded(
+    c: Course,
+    patc: &mut [u32; 112],
+    lines: &mut [u32; 1280],
+    cells: &mut [u32; 4096],
+) -> Flight
+    requires { c.place < 1024 }
     ensures { (flown result patc.new lines.new cells.new ≡ loaded_of c patc.old lines.old cells.old) × (result.course.place < 1024) }
 {
     let page = pages::tables::page_word(c.access.address, c.access.supervisor);
@@ -71,9 +76,9 @@ fn walk(
     walked: Walked,
     patc: &mut [u32; 112],
     lines: &mut [u32; 1280],
-    cells: &mut [u32],
+    cells: &mut [u32; 4096],
 ) -> Flight
-    requires { (c.place < 1024) × (length cells.old ≡ 4096) }
+    requires { c.place < 1024 }
     ensures { (flown result patc.new lines.new cells.new ≡ walk_of c walked patc.old lines.old cells.old) × (result.course.place < 1024) }
 {
     match walked {
@@ -91,10 +96,10 @@ pub fn take_page(
     c: Course,
     patc: &mut [u32; 112],
     lines: &mut [u32; 1280],
-    cells: &mut [u32],
+    cells: &mut [u32; 4096],
     read: Read,
 ) -> Flight
-    requires { (c.place < 1024) × (length cells.old ≡ 4096) }
+    requires { c.place < 1024 }
     ensures { (flown result patc.new lines.new cells.new ≡ page_of c patc.old lines.old cells.old read) × (result.course.place < 1024) }
 {
     let moved = read.moved;
@@ -122,10 +127,10 @@ pub fn take_update(
     c: Course,
     patc: &mut [u32; 112],
     lines: &mut [u32; 1280],
-    cells: &mut [u32],
+    cells: &mut [u32; 4096],
     moved: Moved,
 ) -> Flight
-    requires { (c.place < 1024) × (length cells.old ≡ 4096) }
+    requires { c.place < 1024 }
     ensures { (flown result patc.new lines.new cells.new ≡ update_of c patc.old lines.old cells.old moved) × (result.course.place < 1024) }
 {
     let d = course::listed(c, moved);

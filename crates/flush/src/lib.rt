@@ -10,12 +10,12 @@ use sweep::{Flushed, Kind, Range};
 fn copy_back(
     kind: Kind,
     lines: &mut [u32; 1280],
-    cells: &[u32],
+    cells: &[u32; 4096],
     ram: &mut [u32],
     p: usize,
     address: u32,
 ) -> Flushed
-    requires { (p < 1024) × (length cells.now ≡ 4096) }
+    requires { p < 1024 }
     ensures { (swept result lines.new ram.new ≡ copied_of kind lines.old cells.now ram.old p address) × (result.words ≤ 4) }
 {
     let moved = memory::write_line(ram, address, cells::line_words(cells, p));
@@ -32,11 +32,11 @@ fn flush_line(
     range: Range,
     sar: u32,
     lines: &mut [u32; 1280],
-    cells: &[u32],
+    cells: &[u32; 4096],
     ram: &mut [u32],
     p: usize,
 ) -> Flushed
-    requires { (p < 1024) × (length cells.now ≡ 4096) }
+    requires { p < 1024 }
     ensures { (swept result lines.new ram.new ≡ line_of kind range sar cells.now p lines.old ram.old) × (result.words ≤ 4) }
 {
     let word = lines::tag_word(lines, p);
@@ -60,10 +60,9 @@ pub fn flush(
     range: Range,
     sar: u32,
     lines: &mut [u32; 1280],
-    cells: &[u32],
+    cells: &[u32; 4096],
     ram: &mut [u32],
 ) -> Flushed
-    requires { length cells.now ≡ 4096 }
     ensures { swept result lines.new ram.new ≡ sweep_of kind range sar cells.now lines.old ram.old 1024 }
 {
     let mut words: u32 = 0;

@@ -133,8 +133,8 @@ pub fn look(
 }
 
 // The word that is hit, and the line is used.
-pub fn read(lines: &mut [u32; 1280], cells: &[u32], hit: Hit, enables: u32) -> u32
-    requires { (hit.place < 1024) × (length cells.now ≡ 4096) }
+pub fn read(lines: &mut [u32; 1280], cells: &[u32; 4096], hit: Hit, enables: u32) -> u32
+    requires { hit.place < 1024 }
     ensures { (result ≡ keep_of enables (word_at cells.now hit.place hit.address)) × (lines.new ≡ used_at lines.old hit.place) }
 {
     let word = cells::word(cells, hit.place, hit.address);
@@ -143,8 +143,8 @@ pub fn read(lines: &mut [u32; 1280], cells: &[u32], hit: Hit, enables: u32) -> u
 }
 
 // The word is written to the line that is hit, which is then modified and used.
-pub fn write(lines: &mut [u32; 1280], cells: &mut [u32], hit: Hit, enables: u32, word: u32)
-    requires { (hit.place < 1024) × (length cells.old ≡ 4096) }
+pub fn write(lines: &mut [u32; 1280], cells: &mut [u32; 4096], hit: Hit, enables: u32, word: u32)
+    requires { hit.place < 1024 }
     ensures { (lines.new ≡ used_at (marked lines.old hit.place 1) hit.place) × (cells.new ≡ merged_at cells.old hit.place hit.address enables word) }
 {
     lines::set_state(lines, hit.place, 1);

@@ -17,10 +17,9 @@ pub fn save(
     pair: FaultPair,
     patc: &[u32; 112],
     lines: &[u32; 1280],
-    cells: &[u32],
+    cells: &[u32; 4096],
     out: &mut [u8],
 ) -> u32
-    requires { length cells.now ≡ 4096 }
     ensures { saved result out.new ≡ save_of (chip u pair patc.now lines.now cells.now) out.old }
 {
     if out.len() < 22039 {
@@ -43,9 +42,8 @@ pub fn restore(
     pair: FaultPair,
     patc: &mut [u32; 112],
     lines: &mut [u32; 1280],
-    cells: &mut [u32],
+    cells: &mut [u32; 4096],
 ) -> Restored
-    requires { length cells.old ≡ 4096 }
     ensures { loaded result patc.new lines.new cells.new ≡ restore_of src.now (chip u pair patc.old lines.old cells.old) }
 {
     let number = saved::verdict::verdict(src);

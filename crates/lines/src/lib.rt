@@ -145,8 +145,8 @@ fn set_tag(lines: &mut [u32; 1280], p: usize, address: u32)
 }
 
 // Fills one line: the four words, the address's tag, state 2.
-pub fn fill(lines: &mut [u32; 1280], cells: &mut [u32], p: usize, address: u32, part: &[u32])
-    requires { (p < 1024) × (length cells.old ≡ 4096) × (4 ≤ length part.now) }
+pub fn fill(lines: &mut [u32; 1280], cells: &mut [u32; 4096], p: usize, address: u32, part: &[u32])
+    requires { (p < 1024) × (4 ≤ length part.now) }
     ensures { (lines.new ≡ filled_of lines.old p address) × (cells.new ≡ put_of cells.old (p * 4) part.now) }
 {
     memory::put(cells, p * 4, part);

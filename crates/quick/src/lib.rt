@@ -66,14 +66,14 @@ fn put_reply(reply: &mut [u32; 24], case: u32, value: u32)
 // The access is answered: the line is read or written, and used.
 pub fn answer(
     lines: &mut [u32; 1280],
-    cells: &mut [u32],
+    cells: &mut [u32; 4096],
     hit: Hit,
     write: bool,
     enables: u32,
     word: u32,
     reply: &mut [u32; 24],
 )
-    requires { (hit.place < 1024) × (length cells.old ≡ 4096) }
+    requires { hit.place < 1024 }
     ensures { (lines.new ≡ lines_after write lines.old hit) × (cells.new ≡ cells_after write cells.old hit enables word) × (reply.new ≡ reply_after write cells.old hit enables) }
 {
     if write {

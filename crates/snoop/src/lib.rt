@@ -23,12 +23,12 @@ fn yields(im: bool) -> u32
 fn give(
     im: bool,
     lines: &mut [u32; 1280],
-    cells: &[u32],
+    cells: &[u32; 4096],
     ram: &mut [u32],
     p: usize,
     word: u32,
 ) -> Snooped
-    requires { (p < 1024) × (length cells.now ≡ 4096) }
+    requires { p < 1024 }
     ensures { snooped result lines.new ram.new ≡ retried_of im lines.old cells.now ram.old p word }
 {
     let moved = memory::write_line(
@@ -44,8 +44,14 @@ fn give(
 }
 
 // The line that a snoop hit gives way: a modified one is copied back first.
-fn give_way(im: bool, lines: &mut [u32; 1280], cells: &[u32], ram: &mut [u32], p: usize) -> Snooped
-    requires { (p < 1024) × (length cells.now ≡ 4096) }
+fn give_way(
+    im: bool,
+    lines: &mut [u32; 1280],
+    cells: &[u32; 4096],
+    ram: &mut [u32],
+    p: usize,
+) -> Snooped
+    requires { p < 1024 }
     ensures { snooped result lines.new ram.new ≡ hit_by im p lines.old cells.now ram.old }
 {
     let word = lines::tag_word(lines, p);
@@ -62,10 +68,9 @@ pub fn snoop(
     im: bool,
     address: u32,
     lines: &mut [u32; 1280],
-    cells: &[u32],
+    cells: &[u32; 4096],
     ram: &mut [u32],
 ) -> Snooped
-    requires { length cells.now ≡ 4096 }
     ensures { snooped result lines.new ram.new ≡ snoop_of enabled im address lines.old cells.now ram.old }
 {
     if enabled {

@@ -75,9 +75,9 @@ pub fn restore(
 ) -> UnitCall
     ensures { unit_done result.reply result.pair patc.new lines.new cells.new ≡ restore_call (chip u pair patc.old lines.old cells.old) src.now }
 {
-    if cells.len() != 4096 {
+    let Some(cells) = cells.as_mut_array() else {
         return unit_call(3, u, pair);
-    }
+    };
     restored(image::restore(src, u, pair, patc, lines, cells))
 }
 
@@ -96,6 +96,9 @@ pub fn save(
     if number != 0 {
         return SaveReply { number };
     }
+    let Some(cells) = cells.as_array() else {
+        unreachable!();
+    };
     let number = image::save(u, pair, patc, lines, cells, out);
     SaveReply { number }
 }

@@ -10,8 +10,8 @@ ghost use Rattle.transfers.specs.Transfers.{flown_to, single_by, carried, transf
 
 use course::{Course, Flight, Stage};
 
-fn drop(c: Course, lines: &mut [u32; 1280], cells: &[u32], ram: &mut [u32]) -> Flight
-    requires { (c.place < 1024) × (length cells.now ≡ 4096) }
+fn drop(c: Course, lines: &mut [u32; 1280], cells: &[u32; 4096], ram: &mut [u32]) -> Flight
+    requires { c.place < 1024 }
     ensures { (lined result lines.new ≡ drop_of c lines.old (write_line_of ram.old c.want.address (line_words cells.now c.place)).moved) × (ram.new ≡ (write_line_of ram.old c.want.address (line_words cells.now c.place)).ram) × (result.course.place < 1024) }
 {
     let part = cells::line_words(cells, c.place);
@@ -19,8 +19,8 @@ fn drop(c: Course, lines: &mut [u32; 1280], cells: &[u32], ram: &mut [u32]) -> F
     after::take_drop(c, lines, moved)
 }
 
-fn back(c: Course, cells: &[u32], ram: &mut [u32]) -> Flight
-    requires { (c.place < 1024) × (length cells.now ≡ 4096) }
+fn back(c: Course, cells: &[u32; 4096], ram: &mut [u32]) -> Flight
+    requires { c.place < 1024 }
     ensures { (result ≡ back_of c (write_line_of ram.old c.want.address (line_words cells.now c.place)).moved) × (ram.new ≡ (write_line_of ram.old c.want.address (line_words cells.now c.place)).ram) × (result.course.place < 1024) }
 {
     let part = cells::line_words(cells, c.place);
@@ -31,11 +31,11 @@ fn back(c: Course, cells: &[u32], ram: &mut [u32]) -> Flight
 fn fill<'a>(
     c: Course,
     lines: &mut [u32; 1280],
-    cells: &mut [u32],
+    cells: &mut [u32; 4096],
     ram: &'a [u32],
     rom: &'a [u32],
 ) -> Flight
-    requires { (c.place < 1024) × (length cells.old ≡ 4096) }
+    requires { c.place < 1024 }
     ensures { (cached result lines.new cells.new ≡ fill_of c lines.old cells.old (part_of ram.now rom.now c.want.address) (shown_of (part_of ram.now rom.now c.want.address) c.want.address)) × (result.course.place < 1024) }
 {
     let part = memory::line(ram, rom, c.want.address);
@@ -43,8 +43,8 @@ fn fill<'a>(
     after::take_fill(c, lines, cells, part, moved)
 }
 
-fn store(c: Course, lines: &mut [u32; 1280], cells: &mut [u32], ram: &mut [u32]) -> Flight
-    requires { (c.place < 1024) × (length cells.old ≡ 4096) }
+fn store(c: Course, lines: &mut [u32; 1280], cells: &mut [u32; 4096], ram: &mut [u32]) -> Flight
+    requires { c.place < 1024 }
     ensures { (cached result lines.new cells.new ≡ store_of c lines.old cells.old (write_word_of ram.old c.want.address c.access.enables c.access.word).moved) × (ram.new ≡ (write_word_of ram.old c.want.address c.access.enables c.access.word).ram) × (result.course.place < 1024) }
 {
     let a = c.access;
@@ -70,11 +70,11 @@ fn single(c: Course, ram: &mut [u32], rom: &[u32]) -> Flight
 pub fn transfer(
     f: Flight,
     lines: &mut [u32; 1280],
-    cells: &mut [u32],
+    cells: &mut [u32; 4096],
     ram: &mut [u32],
     rom: &[u32],
 ) -> Flight
-    requires { (f.course.place < 1024) × (length cells.old ≡ 4096) }
+    requires { f.course.place < 1024 }
     ensures { (carried result lines.new cells.new ram.new ≡ transfer_of f lines.old cells.old ram.old rom.now) × (result.course.place < 1024) }
 {
     let c = f.course;

@@ -14,12 +14,11 @@ fn mapped(
     pair: FaultPair,
     patc: &mut [u32; 112],
     lines: &mut [u32; 1280],
-    cells: &mut [u32],
+    cells: &mut [u32; 4096],
     ram: &mut [u32],
     rom: &[u32],
     access: Access,
 ) -> Accessed
-    requires { length cells.old ≡ 4096 }
     ensures { whole result patc.new lines.new cells.new ram.new ≡ mapped_of u pair patc.old lines.old cells.old ram.old rom.now access }
 {
     let ports = u.ports;
@@ -35,12 +34,11 @@ pub fn access(
     pair: FaultPair,
     patc: &mut [u32; 112],
     lines: &mut [u32; 1280],
-    cells: &mut [u32],
+    cells: &mut [u32; 4096],
     ram: &mut [u32],
     rom: &[u32],
     access: Access,
 ) -> Accessed
-    requires { length cells.old ≡ 4096 }
     ensures { whole result patc.new lines.new cells.new ram.new ≡ access_of u pair patc.old lines.old cells.old ram.old rom.now access }
 {
     if access.enables == 0 {
@@ -72,13 +70,12 @@ fn after_snoop(u: Registers, answer: Snooped) -> Registers
 pub fn snoop(
     u: Registers,
     lines: &mut [u32; 1280],
-    cells: &[u32],
+    cells: &[u32; 4096],
     ram: &mut [u32],
     address: u32,
     g: bool,
     im: bool,
 ) -> Watched
-    requires { length cells.now ≡ 4096 }
     ensures { watched result lines.new ram.new ≡ snoop_of u lines.old cells.now ram.old address g im }
 {
     let enabled = words::bit(u.sctr, 14) & g;

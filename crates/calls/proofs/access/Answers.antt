@@ -8,9 +8,9 @@ pub returns-then-number-ne0 : goal.returns-then-number-ne0
 unfolding access_by
 returns-then-number-ne0 c = rw (c.access_refused.ensures.0, c.access_refused.ensures.1, ← c.access-number.ensures, ne_eqb _ _ c.if-number-ne0.true)
 
-pub access-requires : goal.access-requires
-access-requires c = access_cells _ _ _ _ _ (sym c.access-number.ensures ∙ c.if-number-ne0.false)
+pub unreachable-requires : goal.unreachable-requires
+unreachable-requires c = c.in_default.ensures.cases (access_cells _ _ _ _ _ (sym c.access-number.ensures ∙ c.if-number-ne0.false))
 
 pub returns : goal.returns
 unfolding access_by
-returns c = rw (c.access_taken.ensures.0, c.access_taken.ensures.1, ← c.access-number.ensures, eq-eqb _ _ c.if-number-ne0.false, ← c.access.ensures)
+returns c = rw (c.access_taken.ensures.0, c.access_taken.ensures.1, ← c.access-number.ensures, eq-eqb _ _ c.if-number-ne0.false, ← c.in-Some.ensures.cases.same, ← c.access.ensures)

@@ -7,14 +7,11 @@ use Rattle.exports.proofs.access.Goals as goal
 pub returns-then-number-ne0 : goal.returns-then-number-ne0
 returns-then-number-ne0 c = refused_right c.args.unit.now c.args.pair c.args.patc.now c.args.lines.now c.args.cells.now c.args.ram.now c.args.rom.now c.args.address c.args.kind c.args.enables c.args.word c.args.reply.now _ c.access-number.ensures (ne_eqb _ _ c.if-number-ne0.true)
 
-pub answer-requires : goal.answer-requires
-answer-requires c = (c.if-hit-lt1024.true, access_cells _ _ _ _ _ (sym c.access-number.ensures ∙ c.if-number-ne0.false))
+pub unreachable-requires : goal.unreachable-requires
+unreachable-requires c = c.in_default.ensures.cases (access_cells _ _ _ _ _ (sym c.access-number.ensures ∙ c.if-number-ne0.false))
 
 pub returns-then-hit-lt1024 : goal.returns-then-hit-lt1024
-returns-then-hit-lt1024 c = rw (c.answer.ensures.0, c.answer.ensures.1, c.answer.ensures.2, c.bit.ensures, c.look-hit.ensures.0, c.if-number-ne0.false) (quick_right c.args.unit.now c.args.pair c.args.patc.now c.args.lines.now c.args.cells.now c.args.ram.now c.args.rom.now c.args.address c.args.kind c.args.enables c.args.word c.args.reply.now c.look-hit.ensures.1 (sym c.access-number.ensures ∙ c.if-number-ne0.false) (rw c.look-hit.ensures.0 at c.if-hit-lt1024.true))
-
-pub any_access-requires : goal.any_access-requires
-any_access-requires c = access_cells _ _ _ _ _ (sym c.access-number.ensures ∙ c.if-number-ne0.false)
+returns-then-hit-lt1024 c = rw (c.answer.ensures.0, c.answer.ensures.1, c.answer.ensures.2, c.bit.ensures, c.look-hit.ensures.0, c.if-number-ne0.false, c.in-Some.ensures.cases.same) (quick_right c.args.unit.now c.args.pair c.args.patc.now c.args.lines.now c.args.cells.now c.args.ram.now c.args.rom.now c.args.address c.args.kind c.args.enables c.args.word c.args.reply.now c.look-hit.ensures.1 (sym c.access-number.ensures ∙ c.if-number-ne0.false) (rw c.look-hit.ensures.0 at c.if-hit-lt1024.true))
 
 pub returns : goal.returns
-returns c = c.any_access.ensures ∙ call_taken c.args.unit.now c.args.pair c.args.patc.now c.args.lines.now c.args.cells.now c.args.ram.now c.args.rom.now c.args.address c.args.kind c.args.enables c.args.word c.args.reply.now (sym c.access-number.ensures ∙ c.if-number-ne0.false)
+returns c = rw (c.any_access.ensures, c.in-Some.ensures.cases.same) (call_taken c.args.unit.now c.args.pair c.args.patc.now c.args.lines.now c.args.cells.now c.args.ram.now c.args.rom.now c.args.address c.args.kind c.args.enables c.args.word c.args.reply.now (sym c.access-number.ensures ∙ c.if-number-ne0.false))

@@ -31,12 +31,16 @@ get_words-requires-2 c =
     omega arith
 
 pub get_words-requires-3 : goal.get_words-requires-3
-get_words-requires-3 c = let h = long c.args.src.now _ c.verdict-number.ensures c.if-number-ne0.false in omega arith
+get_words-requires-3 c =
+    let h = long c.args.src.now _ c.verdict-number.ensures c.if-number-ne0.false in
+    let n : length c.args.cells.now ≡ 4096 = search rules in
+    omega arith
 
 pub returns : goal.returns
 returns c =
     let entries : length c.args.patc.now ≡ 112 = search rules in
     let sets : length c.args.lines.now ≡ 1280 = search rules in
+    let words : length c.args.cells.now ≡ 4096 = search rules in
     rw (
       c.pair_at-pair.ensures,
       c.registers_at-registers.ensures,
@@ -45,5 +49,5 @@ returns c =
       c.get_words-2.ensures,
       sets,
       c.get_words-3.ensures,
-      c.requires,
+      words,
     ) (restore_done c.args.src.now (chip c.args.u c.args.pair c.args.patc.now c.args.lines.now c.args.cells.now) (sym c.verdict-number.ensures ∙ c.if-number-ne0.false))

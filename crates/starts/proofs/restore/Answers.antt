@@ -8,10 +8,10 @@ use Rattle.starts.proofs.restore.Goals as goal
 abbrev done_of : Loaded → UnitDone
 done_of l = record { number = l.number; unit = l.unit }
 
-pub returns-then-cells-ne4096 : goal.returns-then-cells-ne4096
+pub returns-in_default : goal.returns-in_default
 unfolding unit_by restore_refusal restore_of
-returns-then-cells-ne4096 c = rw (c.unit_call.ensures.0, c.unit_call.ensures.1, c.unit_call.ensures.2, ne_eqb _ _ c.if-cells-ne4096.true)
+returns-in_default c = rw (c.unit_call.ensures.0, c.unit_call.ensures.1, c.unit_call.ensures.2, ne_eqb _ _ c.in_default.ensures.cases)
 
 pub returns : goal.returns
 unfolding unit_by restore_refusal restore_of
-returns c = rw (c.restored.ensures.0, c.restored.ensures.1, c.restored.ensures.2, eq-eqb _ _ c.if-cells-ne4096.false) (ap done_of c.restore.ensures)
+returns c = rw (c.restored.ensures.0, c.restored.ensures.1, c.restored.ensures.2, eq-eqb _ _ c.in-Some.ensures.cases.long, ← c.in-Some.ensures.cases.same) (ap done_of c.restore.ensures)

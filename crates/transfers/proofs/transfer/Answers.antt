@@ -42,4 +42,4 @@ returns-in-Single c = (rw (c.in-Single.is, ← c.single.ensures.0), c.single.ens
 pub returns-in_default : goal.returns-in_default
 returns-in_default c =
     let w = c.in_default in
-    (left_alone c.args.f.stage _ _ _ _ _ w.not-Drop w.not-Back w.not-Fill w.not-Store w.not-Single, c.requires.0)
+    (left_alone c.args.f.stage _ _ _ _ _ w.not-Drop w.not-Back w.not-Fill w.not-Store w.not-Single, c.requires)
