@@ -9,9 +9,7 @@ use Rattle.state.specs.declared.Outcome.TheVariants.{Idle, Word, Written, Failed
 use Rattle.state.specs.Outcome.{pair_of}
 use Rattle.course.specs.declared.Flight.{Flight}
 use Rattle.course.specs.Course.{no_transaction}
-use Rattle.answers.specs.declared.Accessed.{Accessed}
-use Rattle.registers.specs.declared.Stored.{Stored}
-use Rattle.registers.specs.Registers.{with_pointer}
+use Rattle.registers.specs.Registers.{Stored, with_pointer}
 
 abbrev pub words_at : List Transaction → ℕ → ℕ
 words_at list n = (get_or list n no_transaction).words
@@ -27,6 +25,12 @@ fault_of p (Word w) = p
 fault_of p Written = p
 fault_of p (Failed f) = pair_of f
 
+-- registers and fault pair after an access, and its answer
+pub record Accessed : Type 0 where
+  pub registers : Registers
+  pub pair : FaultPair
+  pub answer : Answer
+
 abbrev pub accessed : Registers → FaultPair → Answer → Accessed
 accessed u p a = record { registers = u; pair = p; answer = a }
 
@@ -34,8 +38,11 @@ abbrev pub answer_of : Outcome → List Transaction → ℕ → ℕ → Answer
 answer_of o list count words = record { outcome = o; list = list; count = count; words = words }
 
 -- without transactions
+abbrev pub unlisted_of : Outcome → ℕ → Answer
+unlisted_of o words = answer_of o (replicate 6 no_transaction) 0 words
+
 unfoldable pub plain_of : Registers → FaultPair → Outcome → ℕ → Accessed
-plain_of u p o words = accessed u p (answer_of o (replicate 6 no_transaction) 0 words)
+plain_of u p o words = accessed u p (unlisted_of o words)
 
 unfoldable pub failed_of : Registers → ℕ → Accessed
 failed_of u address =

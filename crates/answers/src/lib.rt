@@ -1,103 +1,68 @@
-// The answer to an access, with the registers and the fault pair that it leaves.
+// The answer to an access, and what an access leaves in the fault pair and the registers.
 #![tactic(auto)]
 
 ghost use Rattle.std.specs.Prelude.{◌≡◌, ◌<◌};
-ghost use Rattle.answers.specs.Answers.{total_of, fault_of, accessed, plain_of, failed_of, written_of, flown_of};
+ghost use Rattle.state.specs.declared.Registers.{Registers};
+ghost use Rattle.answers.specs.Answers.{total_of, fault_of, accessed, unlisted_of, failed_of, flown_of};
 
 use course::Flight;
-use registers::Stored;
 use state::{Answer, Fault, FaultPair, Outcome, Registers, Transaction};
 
-#[derive(Clone, Copy)]
-pub struct Accessed {
-    pub registers: Registers,
-    pub pair: FaultPair,
-    pub answer: Answer,
-}
-
-fn words_of(t: Transaction) -> u32
-    ensures { (result ≡ t.words) × (result < 256) }
-{
-    words::wide(t.words)
-}
-
 // The words that the listed transactions moved.
-fn total(list: [Transaction; 6]) -> u32
-    ensures { result ≡ total_of list }
+fn total(list: &[Transaction; 6]) -> u32
+    ensures { result ≡ total_of list.now }
 {
-    words_of(list[0])
-        + words_of(list[1])
-        + words_of(list[2])
-        + words_of(list[3])
-        + words_of(list[4])
-        + words_of(list[5])
+    list.iter().map(|t| u32::from(t.words)).sum()
 }
 
 // A fault sets the pair, and nothing else of an access does.
-fn fault(pair: FaultPair, outcome: Outcome) -> FaultPair
-    ensures { result ≡ fault_of pair outcome }
+#[tactic(auto, unfolding(crate::specs::Answers::fault_of))]
+fn settle(pair: &mut FaultPair, outcome: Outcome)
+    ensures { pair.new ≡ fault_of pair.old outcome }
 {
-    match outcome {
-        Outcome::Idle => pair,
-        Outcome::Word(_) => pair,
-        Outcome::Written => pair,
-        Outcome::Failed(fault) => state::pair(fault),
+    if let Outcome::Failed(fault) = outcome {
+        *pair = state::pair(fault);
     }
 }
 
 // An answer without transactions.
-pub fn plain(registers: Registers, pair: FaultPair, outcome: Outcome, words: u32) -> Accessed
-    ensures { result ≡ plain_of registers pair outcome words }
+pub fn plain(outcome: Outcome, words: u32) -> Answer
+    ensures { result ≡ unlisted_of outcome words }
 {
-    let none = course::no_transaction();
-    let list = [none; 6];
-    let answer = Answer {
+    Answer {
         outcome,
-        list,
+        list: [course::no_transaction(); 6],
         count: 0,
         words,
-    };
-    Accessed {
-        registers,
-        pair,
-        answer,
     }
 }
 
 // A control access that reaches nobody: a bus error at its address.
-pub fn failed(registers: Registers, address: u32) -> Accessed
-    ensures { result ≡ failed_of registers address }
+#[tactic(auto, unfolding(crate::specs::Answers::failed_of, crate::specs::Answers::plain_of))]
+pub fn failed(pair: &mut FaultPair, address: u32) -> Answer
+    ensures { (u : Registers) → accessed u pair.new result ≡ failed_of u address }
 {
     let fault = Fault { code: 3, address };
-    plain(registers, state::pair(fault), Outcome::Failed(fault), 0)
-}
-
-// A register write through control space.
-pub fn written(s: Stored) -> Accessed
-    ensures { result ≡ written_of s }
-{
-    let registers = s.registers;
-    let pair = s.pair;
-    plain(registers, pair, Outcome::Written, s.words)
+    *pair = state::pair(fault);
+    plain(Outcome::Failed(fault), 0)
 }
 
 // A flight that has ended.
-pub fn flown(u: Registers, pair: FaultPair, f: Flight) -> Accessed
-    ensures { result ≡ flown_of u pair f }
+#[tactic(auto, unfolding(crate::specs::Answers::flown_of, registers::specs::Registers::with_pointer))]
+pub fn flown(u: &mut Registers, pair: &mut FaultPair, f: Flight) -> Answer
+    ensures { accessed u.new pair.new result ≡ flown_of u.old pair.old f }
 {
-    let c = f.course;
-    let outcome = f.outcome;
-    let list = c.list;
-    let answer = Answer {
+    let Flight {
+        course,
         outcome,
-        list,
-        count: c.count,
-        words: total(list),
-    };
-    let registers = registers::with_pointer(u, c.pointer);
-    Accessed {
-        registers,
-        pair: fault(pair, outcome),
-        answer,
+        ..
+    } = f;
+    u.pointer = course.pointer;
+    settle(pair, outcome);
+    Answer {
+        outcome,
+        list: course.list,
+        count: course.count,
+        words: total(&course.list),
     }
 }

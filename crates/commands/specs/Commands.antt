@@ -9,10 +9,9 @@ use Rattle.sweep.specs.declared.Range.TheVariants.{Line, Page, Segment, All}
 use Rattle.sweep.specs.Sweep.{Sweep, sweep_of}
 use Rattle.patc.specs.declared.Range.TheVariants.{Page as EntriesOfPage, Segment as EntriesOfSegment, All as AllEntries}
 use Rattle.patc.specs.Patc.{cleared_of}
-use Rattle.registers.specs.declared.Ran.{Ran}
 use Rattle.commands.specs.declared.Command.{Command}
 use Rattle.commands.specs.declared.Command.TheVariants.{Nothing, Flush, Probe, Clear}
-use Rattle.registers.specs.Registers.{with_status}
+use Rattle.registers.specs.Registers.{Ran, with_status}
 use Rattle.commands.specs.Probe.{ce_of, ran_of, probe_of}
 
 -- the low two bits say line, page, segment, all

@@ -9,8 +9,7 @@ use Rattle.lookup.specs.declared.Place.{Place}
 use Rattle.lookup.specs.declared.Place.TheVariants.{Unmapped, Block, Page, Nowhere}
 use Rattle.pages.specs.Pages.{segment_at, page_at, combined_of}
 use Rattle.lookup.specs.Lookup.{place_of}
-use Rattle.registers.specs.declared.Ran.{Ran}
-use Rattle.registers.specs.Registers.{area_of, with_status}
+use Rattle.registers.specs.Registers.{Ran, area_of, with_status}
 
 -- CE kept
 abbrev pub ce_of : ℕ → ℕ

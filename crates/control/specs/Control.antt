@@ -6,11 +6,9 @@ use Rattle.state.specs.declared.Registers.{Registers}
 use Rattle.state.specs.declared.FaultPair.{FaultPair}
 use Rattle.state.specs.declared.Outcome.TheVariants.{Word}
 use Rattle.state.specs.Own.{own_scr}
-use Rattle.registers.specs.declared.Stored.{Stored}
-use Rattle.registers.specs.Registers.{read_of, stored_of, set_of, with_scr}
+use Rattle.registers.specs.Registers.{Stored, read_of, stored_of, set_of, with_scr}
 use Rattle.commands.specs.Commands.{Commanded, command_of, run_of}
-use Rattle.answers.specs.declared.Accessed.{Accessed}
-use Rattle.answers.specs.Answers.{plain_of, failed_of, written_of}
+use Rattle.answers.specs.Answers.{Accessed, plain_of, failed_of, written_of}
 
 -- ---- a register write
 

@@ -18,8 +18,7 @@ use Rattle.pages.specs.Pages.{unmapped_of, port_of, block_of, paged_of, segment_
 use Rattle.patc.specs.Patc.{entry_of, frame_word}
 use Rattle.pages.specs.Laws.{flag_bit}
 use Rattle.lookup.specs.Lookup.{place_of}
-use Rattle.registers.specs.declared.Ran.{Ran}
-use Rattle.registers.specs.Registers.{area_of, with_scr, with_ssr, with_sar, with_sctr, with_sapr, with_uapr, with_pointer, with_port, set_fault_of, set_port_of, set_register_of}
+use Rattle.registers.specs.Registers.{Ran, area_of, with_scr, with_ssr, with_sar, with_sctr, with_sapr, with_uapr, with_pointer, with_port, set_fault_of, set_port_of, set_register_of}
 use Rattle.commands.specs.Probe.{ce_of, status_of, found_of, missing_of, failed_of, page_of, tables_of, placed_of, probe_of}
 use Rattle.commands.specs.Commands.{flushed_of}
 use Rattle.reached.specs.Good.{GoodRegisters, GoodPair}

@@ -4,7 +4,6 @@ use Rattle.words.specs.Words.{pick}
 use Rattle.state.specs.Own.{own_idr, own_scr, own_ssr, own_sctr, own_status, own_area}
 use Rattle.state.specs.declared.Registers.{Registers}
 use Rattle.state.specs.declared.FaultPair.{FaultPair}
-use Rattle.registers.specs.declared.Stored.{Stored}
 
 abbrev pub area_of : Registers → Bool → ℕ
 area_of u s = pick s u.sapr u.uapr
@@ -21,6 +20,17 @@ read_of u p offset =
     (pick (eqb offset 0x10C) p.address
     (pick (eqb offset 0x200) (own_area u.sapr)
     (pick (eqb offset 0x204) (own_area u.uapr) 0))))))))
+
+-- registers and the fault pair after a call, and the words that it moved
+pub record Stored : Type 0 where
+  pub registers : Registers
+  pub pair : FaultPair
+  pub words : ℕ
+
+-- registers after a command, and the words that it moved
+pub record Ran : Type 0 where
+  pub registers : Registers
+  pub words : ℕ
 
 abbrev pub stored_of : Registers → FaultPair → ℕ → Stored
 stored_of u p words = record { registers = u; pair = p; words = words }

@@ -10,12 +10,10 @@ use Rattle.flight.specs.Steps.{Ended, access_of as steps_of, opening}
 use Rattle.snoop.specs.declared.Snooped.{Snooped}
 use Rattle.snoop.specs.declared.Snooped.TheVariants.{Clear, Retry, Failed}
 use Rattle.snoop.specs.Snoop.{Snoop, snoop_of as line_snoop}
-use Rattle.answers.specs.declared.Accessed.{Accessed}
-use Rattle.unit.specs.declared.Watched.{Watched}
 use Rattle.driver.specs.Alone.{Memory, memory, alone}
 use Rattle.registers.specs.Registers.{area_of, with_ssr, with_pointer}
 use Rattle.control.specs.Control.{Controlled, control_of}
-use Rattle.answers.specs.Answers.{total_of, fault_of, accessed, answer_of, plain_of}
+use Rattle.answers.specs.Answers.{Accessed, total_of, fault_of, accessed, answer_of, plain_of}
 
 -- ---- an access
 
@@ -60,6 +58,11 @@ unfoldable pub after_snoop : Registers → Snooped → Registers
 after_snoop u Clear = u
 after_snoop u Retry = u
 after_snoop u Failed = with_ssr u (own_ssr u.ssr % 32768 + 32768)
+
+-- registers after a snoop, and its answer
+pub record Watched : Type 0 where
+  pub registers : Registers
+  pub answer : Snooped
 
 pub record Snooping : Type 0 where
   pub watched : Watched
