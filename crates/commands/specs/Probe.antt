@@ -1,5 +1,5 @@
 -- The probe of SAR: 20 (user) and 24 (supervisor).
-use Rattle.std.specs.Prelude.{ℕ, ◌+◌, ◌*◌, Bool, true, false, List}
+use Rattle.std.specs.Prelude.{ℕ, ◌+◌, ◌*◌, Bool, true, false, List, Option, Some, None}
 use Rattle.words.specs.Words.{pick, bits_of, bit_of, flag_of}
 use Rattle.memory.specs.declared.Read.{Read}
 use Rattle.memory.specs.Memory.{read_of}
@@ -38,6 +38,10 @@ failed_of u at words = ran_of (with_status u (ce_of u.ssr + 16384) at) words
 -- a descriptor that was read, invalid, or not read; `words` were read before it
 abbrev pub read_by : Registers → ℕ → ℕ → Read → Ran → Ran
 read_by u at words r next = pick r.moved.ok (pick (bit_of r.word 0) next (missing_of u at (words + 1))) (failed_of u r.moved.failing words)
+
+-- the word of a valid descriptor
+abbrev pub valid_of : Read → Option ℕ
+valid_of r = pick r.moved.ok (pick (bit_of r.word 0) (Some r.word) None) None
 
 unfoldable pub page_of : Registers → ℕ → ℕ → List ℕ → List ℕ → Ran
 page_of u area segment ram rom =

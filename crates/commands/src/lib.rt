@@ -3,131 +3,94 @@
 
 pub mod probe;
 
-ghost use Rattle.std.specs.Prelude.{◌≡◌, length};
-ghost use Rattle.commands.specs.Commands.{range_of, probing_of, clearing_of, command_of, flushed_of, flush_ran, flush_of, commanded, run_of};
+ghost use Rattle.std.specs.Prelude.{◌≡◌};
+ghost use Rattle.commands.specs.Commands.{command_of, flush_ran, flush_of, commanded, run_of};
 ghost use Rattle.commands.specs.Probe.{ran_of};
 
-use registers::Ran;
+use patc::Range as Entries;
 use state::Registers;
-use sweep::Kind;
+use sweep::{Kind, Range};
 
 #[derive(Clone, Copy)]
 pub enum Command {
     Nothing,
-    Flush(Kind, sweep::Range),
+    Flush(Kind, Range),
     Probe(bool),
-    Clear(bool, patc::Range),
+    Clear(bool, Entries),
 }
 
-// The low two bits of a flush say line, page, segment, all.
-fn range(low: u32) -> sweep::Range
-    ensures { result ≡ range_of low }
-{
-    match low {
-        0 => sweep::Range::Line,
-        1 => sweep::Range::Page,
-        2 => sweep::Range::Segment,
-        _ => sweep::Range::All,
+// Bits 5-0 of a word written to SCR; other codes do nothing.
+impl From<u32> for Command {
+    ghost from_gives = { λ code command. command ≡ command_of code };
+
+    #[tactic(auto, using(crate::proofs::Codes::own), unfolding(crate::specs::Commands::command_of, crate::specs::Commands::range_of, crate::specs::Commands::probing_of, crate::specs::Commands::clearing_of))]
+    fn from(code: u32) -> Command {
+        match words::bits(code, 5, 0) {
+            0x14 => Command::Flush(Kind::Invalidate, Range::Line),
+            0x15 => Command::Flush(Kind::Invalidate, Range::Page),
+            0x16 => Command::Flush(Kind::Invalidate, Range::Segment),
+            0x17 => Command::Flush(Kind::Invalidate, Range::All),
+            0x18 => Command::Flush(Kind::CopyBack, Range::Line),
+            0x19 => Command::Flush(Kind::CopyBack, Range::Page),
+            0x1A => Command::Flush(Kind::CopyBack, Range::Segment),
+            0x1B => Command::Flush(Kind::CopyBack, Range::All),
+            0x1C => Command::Flush(Kind::Both, Range::Line),
+            0x1D => Command::Flush(Kind::Both, Range::Page),
+            0x1E => Command::Flush(Kind::Both, Range::Segment),
+            0x1F => Command::Flush(Kind::Both, Range::All),
+            0x20 => Command::Probe(false),
+            0x24 => Command::Probe(true),
+            0x31 => Command::Clear(false, Entries::Page),
+            0x32 => Command::Clear(false, Entries::Segment),
+            0x33 => Command::Clear(false, Entries::All),
+            0x35 => Command::Clear(true, Entries::Page),
+            0x36 => Command::Clear(true, Entries::Segment),
+            0x37 => Command::Clear(true, Entries::All),
+            _ => Command::Nothing,
+        }
     }
 }
 
-// 20 and 24 alone probe.
-fn probing(low: u32, supervisor: bool) -> Command
-    ensures { result ≡ probing_of low supervisor }
-{
-    if low == 0 {
-        return Command::Probe(supervisor);
-    }
-    Command::Nothing
-}
-
-// 31-33 and 35-37 clear entries of a page, of a segment, all.
-fn clearing(low: u32, supervisor: bool) -> Command
-    ensures { result ≡ clearing_of low supervisor }
-{
-    match low {
-        1 => Command::Clear(supervisor, patc::Range::Page),
-        2 => Command::Clear(supervisor, patc::Range::Segment),
-        3 => Command::Clear(supervisor, patc::Range::All),
-        _ => Command::Nothing,
-    }
-}
-
-// What a code asks for; other codes do nothing.
-pub fn decode(code: u32) -> Command
-    ensures { result ≡ command_of code }
-{
-    let low = words::bits(code, 1, 0);
-    let group = words::bits(code, 5, 2);
-    match group {
-        5 => Command::Flush(Kind::Invalidate, range(low)),
-        6 => Command::Flush(Kind::CopyBack, range(low)),
-        7 => Command::Flush(Kind::Both, range(low)),
-        8 => probing(low, false),
-        9 => probing(low, true),
-        12 => clearing(low, false),
-        13 => clearing(low, true),
-        _ => Command::Nothing,
-    }
-}
-
-// SSR and SAR after a flush: set anew, CE kept; a bus error sets BE and puts the line's address in SAR.
-fn flushed(u: Registers, ok: bool, failing: u32) -> Registers
-    ensures { result ≡ flushed_of u ok failing }
-{
-    let ce = crate::probe::kept(u.ssr);
-    if ok {
-        return registers::with_status(u, ce, u.sar);
-    }
-    registers::with_status(u, ce + 16384, failing)
-}
-
+// A flush sets SSR anew, CE kept; its first bus error sets BE and puts the line's address in SAR.
+#[tactic(auto, unfolding(crate::specs::Commands::flush_of, crate::specs::Commands::flushed_of, registers::specs::Registers::with_ssr, registers::specs::Registers::with_sar))]
 fn flush(
-    u: Registers,
+    u: &mut Registers,
     kind: Kind,
-    range: sweep::Range,
+    range: Range,
     lines: &mut [u32; 1280],
     cells: &[u32; 4096],
     ram: &mut [u32],
-) -> Ran
-    ensures { flush_ran result lines.new ram.new ≡ flush_of u kind range lines.old cells.now ram.old }
+) -> u32
+    ensures { flush_ran (ran_of u.new result) lines.new ram.new ≡ flush_of u.old kind range lines.old cells.now ram.old }
 {
-    let r = flush::flush(kind, range, u.sar, lines, cells, ram);
-    let registers = flushed(u, r.ok, r.failing);
-    Ran {
-        registers,
-        words: r.words,
+    let flushed = flush::flush(kind, range, u.sar, lines, cells, ram);
+    if flushed.ok {
+        u.ssr = probe::kept(u.ssr);
+    } else {
+        probe::end(u, probe::BUS_ERROR, flushed.failing);
     }
+    flushed.words
 }
 
-fn same(registers: Registers) -> Ran
-    ensures { result ≡ ran_of registers 0 }
-{
-    Ran {
-        registers,
-        words: 0,
-    }
-}
-
-// Runs the command that stands in SCR.
+// Runs the command that stands in SCR; the words that it moved.
+#[tactic(auto, unfolding(crate::specs::Commands::run_of))]
 pub fn run(
-    u: Registers,
+    u: &mut Registers,
     patc: &mut [u32; 112],
     lines: &mut [u32; 1280],
     cells: &[u32; 4096],
     ram: &mut [u32],
     rom: &[u32],
-) -> Ran
-    ensures { commanded result patc.new lines.new ram.new ≡ run_of u (command_of u.scr) patc.old lines.old cells.now ram.old rom.now }
+) -> u32
+    ensures { commanded (ran_of u.new result) patc.new lines.new ram.new ≡ run_of u.old (command_of u.old.scr) patc.old lines.old cells.now ram.old rom.now }
 {
-    let command = decode(u.scr);
-    match command {
-        Command::Nothing => same(u),
+    match Command::from(u.scr) {
+        Command::Nothing => 0,
         Command::Flush(kind, range) => flush(u, kind, range, lines, cells, ram),
-        Command::Probe(supervisor) => crate::probe::probe(u, supervisor, patc, ram, rom),
-        Command::Clear(supervisor, range) => {
-            patc::clear(patc, range, supervisor, u.sar);
-            same(u)
+        Command::Probe(supervisor) => probe::probe(u, supervisor, patc, ram, rom),
+        Command::Clear(supervisor, entries) => {
+            patc::clear(patc, entries, supervisor, u.sar);
+            0
         }
     }
 }

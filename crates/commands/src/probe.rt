@@ -1,11 +1,15 @@
 // The probe: translation without the control and protection tests, writing no descriptor and loading no entry.
-ghost use Rattle.std.specs.Prelude.{◌≡◌, ◌≤◌};
-ghost use Rattle.commands.specs.Probe.{ce_of, status_of, ran_of, found_of, missing_of, failed_of, page_of, tables_of, placed_of, probe_of};
+ghost use Rattle.std.specs.Prelude.{◌≡◌, ℕ, ◌+◌, ◌<◌, ◌≤◌};
+ghost use Rattle.memory.specs.Memory.{read_of};
+ghost use Rattle.registers.specs.Registers.{with_status};
+ghost use Rattle.commands.specs.Probe.{ce_of, status_of, ran_of, read_by, valid_of, found_of, tables_of, probe_of};
 
 use lookup::Place;
 use pages::Translation;
-use registers::Ran;
 use state::Registers;
+
+// BE of SSR.
+pub const BUS_ERROR: u32 = 16384;
 
 // CE, which flush and probe keep.
 pub fn kept(ssr: u32) -> u32
@@ -15,6 +19,7 @@ pub fn kept(ssr: u32) -> u32
 }
 
 // SSR of an address that was found: the kept CE, the attributes, BH and V.
+#[tactic(auto, unfolding(crate::specs::Probe::status_of))]
 fn status(ssr: u32, t: Translation, bh: bool) -> u32
     ensures { result ≡ status_of ssr t bh }
 {
@@ -30,76 +35,80 @@ fn status(ssr: u32, t: Translation, bh: bool) -> u32
         + 1
 }
 
+// SSR all clear but CE and what ended the command, SAR the address that ended it.
+#[tactic(auto, unfolding(registers::specs::Registers::with_ssr, registers::specs::Registers::with_sar))]
+pub fn end(u: &mut Registers, why: u32, at: u32)
+    requires { why < 32768 }
+    ensures { u.new ≡ with_status u.old (ce_of u.old.ssr + why) at }
+{
+    u.ssr = kept(u.ssr) + why;
+    u.sar = at;
+}
+
 // Found: SAR is the physical address.
-fn found(u: Registers, t: Translation, bh: bool, words: u32) -> Ran
-    ensures { result ≡ found_of u t bh words }
+#[tactic(auto, unfolding(crate::specs::Probe::found_of, registers::specs::Registers::with_ssr, registers::specs::Registers::with_sar))]
+fn found(u: &mut Registers, t: Translation, bh: bool)
+    ensures { (words : ℕ) → ran_of u.new words ≡ found_of u.old t bh words }
 {
-    let registers = registers::with_status(u, status(u.ssr, t, bh), t.address);
-    Ran { registers, words }
+    u.ssr = status(u.ssr, t, bh);
+    u.sar = t.address;
 }
 
-// Not found: SSR all clear but CE, SAR the invalid descriptor's address.
-fn missing(u: Registers, at: u32, words: u32) -> Ran
-    ensures { result ≡ missing_of u at words }
+// A valid descriptor; at an invalid one, or a bus error, the probe ends.
+#[tactic(auto, unfolding(crate::specs::Probe::missing_of, crate::specs::Probe::failed_of))]
+fn descriptor(u: &mut Registers, at: u32, words: &mut u32, ram: &[u32], rom: &[u32]) -> Option<u32>
+    requires { words.old < 2 }
+    ensures word { result ≡ valid_of (read_of ram.now rom.now at) }
+    ensures ran { ran_of u.new words.new ≡ read_by u.old at words.old (read_of ram.now rom.now at) (ran_of u.old (words.old + 1)) }
 {
-    let registers = registers::with_status(u, kept(u.ssr), at);
-    Ran { registers, words }
-}
-
-// Bus error: only BE and the kept CE, SAR the failing address.
-fn failed(u: Registers, at: u32, words: u32) -> Ran
-    ensures { result ≡ failed_of u at words }
-{
-    let registers = registers::with_status(u, kept(u.ssr) + 16384, at);
-    Ran { registers, words }
-}
-
-fn page(u: Registers, area: u32, segment: u32, ram: &[u32], rom: &[u32]) -> Ran
-    ensures { result ≡ page_of u area segment ram.now rom.now }
-{
-    let at = pages::tables::page_at(segment, u.sar);
     let read = memory::read_word(ram, rom, at);
-    if read.moved.ok {
-        if words::bit(read.word, 0) {
-            let t = pages::tables::combined(area, segment, read.word, u.sar);
-            return found(u, t, false, 2);
-        }
-        return missing(u, at, 2);
+    if !read.moved.ok {
+        end(u, BUS_ERROR, read.moved.failing);
+        return None;
     }
-    failed(u, read.moved.failing, 1)
+    *words += 1;
+    if !words::bit(read.word, 0) {
+        end(u, 0, at);
+        return None;
+    }
+    Some(read.word)
 }
 
-fn tables(u: Registers, area: u32, ram: &[u32], rom: &[u32]) -> Ran
-    ensures { result ≡ tables_of u area ram.now rom.now }
+// The tables: the words moved are the descriptors read.
+#[tactic(auto, unfolding(crate::specs::Probe::tables_of, crate::specs::Probe::page_of))]
+fn tables(u: &mut Registers, area: u32, ram: &[u32], rom: &[u32]) -> u32
+    ensures { ran_of u.new result ≡ tables_of u.old area ram.now rom.now }
 {
+    let mut words = 0;
     let at = pages::tables::segment_at(area, u.sar);
-    let read = memory::read_word(ram, rom, at);
-    if read.moved.ok {
-        if words::bit(read.word, 0) {
-            return page(u, area, read.word, ram, rom);
-        }
-        return missing(u, at, 1);
-    }
-    failed(u, read.moved.failing, 0)
-}
-
-fn placed(u: Registers, area: u32, place: Place, ram: &[u32], rom: &[u32]) -> Ran
-    ensures { result ≡ placed_of u area place ram.now rom.now }
-{
-    match place {
-        Place::Unmapped(t) => found(u, t, false, 0),
-        Place::Block(t) => found(u, t, true, 0),
-        Place::Page(_, t) => found(u, t, false, 0),
-        Place::Nowhere => tables(u, area, ram, rom),
-    }
+    let Some(segment) = descriptor(u, at, &mut words, ram, rom) else {
+        return words;
+    };
+    let at = pages::tables::page_at(segment, u.sar);
+    let Some(page) = descriptor(u, at, &mut words, ram, rom) else {
+        return words;
+    };
+    let t = pages::tables::combined(area, segment, page, u.sar);
+    found(u, t, false);
+    words
 }
 
 // Probes SAR in one space.
-pub fn probe(u: Registers, supervisor: bool, patc: &[u32; 112], ram: &[u32], rom: &[u32]) -> Ran
-    ensures { result ≡ probe_of u supervisor patc.now ram.now rom.now }
+#[tactic(auto, unfolding(crate::specs::Probe::probe_of, crate::specs::Probe::placed_of))]
+pub fn probe(
+    u: &mut Registers,
+    supervisor: bool,
+    patc: &[u32; 112],
+    ram: &[u32],
+    rom: &[u32],
+) -> u32
+    ensures { ran_of u.new result ≡ probe_of u.old supervisor patc.now ram.now rom.now }
 {
     let area = registers::area(u, supervisor);
-    let ports = u.ports;
-    let place = lookup::find(area, &ports, patc, u.sar, supervisor);
-    placed(u, area, place, ram, rom)
+    match lookup::find(area, &u.ports, patc, u.sar, supervisor) {
+        Place::Unmapped(t) | Place::Page(_, t) => found(u, t, false),
+        Place::Block(t) => found(u, t, true),
+        Place::Nowhere => return tables(u, area, ram, rom),
+    }
+    0
 }

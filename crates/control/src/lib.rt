@@ -1,7 +1,7 @@
 // Register writes, and control space: the unit's own registers at supervisor addresses from FFF00000 up.
 #![tactic(auto)]
 
-ghost use Rattle.std.specs.Prelude.{◌≡◌, length};
+ghost use Rattle.std.specs.Prelude.{◌≡◌};
 ghost use Rattle.control.specs.Control.{kept, controlled, write_of, reaches_of, control_of};
 
 use answers::Accessed;

@@ -1,7 +1,7 @@
 // One unit on its memory: accesses and snoops.
 #![tactic(auto)]
 
-ghost use Rattle.std.specs.Prelude.{◌≡◌, length};
+ghost use Rattle.std.specs.Prelude.{◌≡◌};
 ghost use Rattle.unit.specs.Unit.{whole, mapped_of, access_of, after_snoop, watched, snoop_of};
 
 use answers::Accessed;
