@@ -2,13 +2,10 @@
 #![tactic(auto)]
 
 ghost use Rattle.std.specs.Prelude.{◌≡◌, length};
-ghost use Rattle.calls.specs.Calls.{access_done, access_reply, access_refused, access_call, snoop_done, snoop_reply, snoop_call, read_call, write_done, write_reply, write_call};
+ghost use Rattle.calls.specs.Calls.{access_done, access_call, snoop_done, snoop_call, read_call, write_done, write_call};
 
-use answers::Accessed;
-use registers::Stored;
 use snoop::Snooped;
 use state::{Access, Answer, FaultPair, Outcome, Registers};
-use unit::Watched;
 
 // An access: 0 or a refusal's number, the registers, and the answer.
 #[derive(Clone, Copy)]
@@ -52,33 +49,6 @@ pub struct WriteCall {
     pub reply: WriteReply,
 }
 
-fn access_refused(number: u32, u: Registers, pair: FaultPair) -> AccessCall
-    ensures { (result.reply ≡ access_refused number u pair) × (result.pair ≡ pair) }
-{
-    let a = answers::plain(u, pair, Outcome::Idle, 0);
-    let answer = a.answer;
-    let reply = AccessReply {
-        number,
-        registers: u,
-        answer,
-    };
-    AccessCall { pair, reply }
-}
-
-fn access_taken(a: Accessed) -> AccessCall
-    ensures { (result.reply ≡ access_reply 0 a.registers a.answer) × (result.pair ≡ a.pair) }
-{
-    let registers = a.registers;
-    let answer = a.answer;
-    let pair = a.pair;
-    let reply = AccessReply {
-        number: 0,
-        registers,
-        answer,
-    };
-    AccessCall { pair, reply }
-}
-
 // One bus access: numbers 1 to 5.
 pub fn access(
     u: Registers,
@@ -99,24 +69,39 @@ pub fn access(
         access.address,
         access.enables,
     );
+    let mut registers = u;
+    let mut pair = pair;
     if number != 0 {
-        return access_refused(number, u, pair);
+        let answer = answers::plain(Outcome::Idle, 0);
+        return AccessCall {
+            pair,
+            reply: AccessReply {
+                number,
+                registers,
+                answer,
+            },
+        };
     }
     let Some(cells) = cells.as_mut_array() else {
         unreachable!();
     };
-    access_taken(unit::access(u, pair, patc, lines, cells, ram, rom, access))
-}
-
-fn snoop_reply(number: u32, w: Watched) -> SnoopReply
-    ensures { result ≡ snoop_reply number w.registers w.answer }
-{
-    let registers = w.registers;
-    let answer = w.answer;
-    SnoopReply {
-        number,
-        registers,
-        answer,
+    let answer = unit::access(
+        &mut registers,
+        &mut pair,
+        patc,
+        lines,
+        cells,
+        ram,
+        rom,
+        access,
+    );
+    AccessCall {
+        pair,
+        reply: AccessReply {
+            number,
+            registers,
+            answer,
+        },
     }
 }
 
@@ -143,7 +128,13 @@ pub fn snoop(
     let Some(cells) = cells.as_array() else {
         unreachable!();
     };
-    snoop_reply(0, unit::snoop(u, lines, cells, ram, address, g, im))
+    let mut registers = u;
+    let answer = unit::snoop(&mut registers, lines, cells, ram, address, g, im);
+    SnoopReply {
+        number,
+        registers,
+        answer,
+    }
 }
 
 // A register read: number 6.
@@ -154,27 +145,8 @@ pub fn read_register(u: Registers, pair: FaultPair, offset: u32) -> ReadReply
     if number != 0 {
         return ReadReply { number, word: 0 };
     }
-    let word = registers::read(u, pair, offset);
+    let word = registers::read(&u, &pair, offset);
     ReadReply { number: 0, word }
-}
-
-fn write_call(number: u32, u: Registers, pair: FaultPair, words: u32) -> WriteCall
-    ensures { (result.reply ≡ write_reply number u words) × (result.pair ≡ pair) }
-{
-    let reply = WriteReply {
-        number,
-        registers: u,
-        words,
-    };
-    WriteCall { pair, reply }
-}
-
-fn write_taken(s: Stored) -> WriteCall
-    ensures { (result.reply ≡ write_reply 0 s.registers s.words) × (result.pair ≡ s.pair) }
-{
-    let registers = s.registers;
-    let pair = s.pair;
-    write_call(0, registers, pair, s.words)
 }
 
 // A register write: numbers 1, 2, 3 and 6.
@@ -192,11 +164,38 @@ pub fn write_register(
     ensures { write_done result.reply result.pair patc.new lines.new ram.new ≡ write_call u pair patc.old lines.old cells.now ram.old rom.now offset value }
 {
     let number = refusals::write(ram.len(), rom.len(), cells.len(), offset);
+    let mut registers = u;
+    let mut pair = pair;
     if number != 0 {
-        return write_call(number, u, pair, 0);
+        return WriteCall {
+            pair,
+            reply: WriteReply {
+                number,
+                registers,
+                words: 0,
+            },
+        };
     }
     let Some(cells) = cells.as_array() else {
         unreachable!();
     };
-    write_taken(control::write_register(u, pair, patc, lines, cells, ram, rom, offset, value))
+    let words = control::write_register(
+        &mut registers,
+        &mut pair,
+        patc,
+        lines,
+        cells,
+        ram,
+        rom,
+        offset,
+        value,
+    );
+    WriteCall {
+        pair,
+        reply: WriteReply {
+            number,
+            registers,
+            words,
+        },
+    }
 }

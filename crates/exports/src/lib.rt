@@ -6,22 +6,9 @@ ghost use Rattle.lent.specs.Lent.{unless};
 ghost use Rattle.layout.specs.Layout.{unit_of, reply_of};
 ghost use Rattle.exports.specs.Exports.{access_out, access_to, access_export, snoop_out, snoop_export, read_out, read_export, write_out, write_export};
 
-use answers::Accessed;
 use calls::WriteCall;
 use lent::{Called, Numbered};
 use state::FaultPair;
-
-// Unit and reply, as an access leaves them.
-fn access_answer(unit: &mut [u32; 16], reply: &mut [u32; 24], a: Accessed) -> Called
-    ensures { (result.number ≡ 0) × (result.pair ≡ a.pair) × (unit.new ≡ unit_of a.registers) × (reply.new ≡ reply_of a.answer) }
-{
-    let u = a.registers;
-    let answer = a.answer;
-    let pair = a.pair;
-    layout::put_registers(unit, u);
-    layout::put_answer(reply, answer);
-    Called { pair, number: 0 }
-}
 
 // Any access that is not refused, by the unit.
 fn any_access(
@@ -40,10 +27,13 @@ fn any_access(
 ) -> Called
     ensures { access_out result.number unit.new result.pair patc.new lines.new cells.new ram.new reply.new ≡ access_to unit.old pair patc.old lines.old cells.old ram.old rom.now address kind enables word reply.old }
 {
-    let u = layout::registers(unit);
+    let mut u = layout::registers(unit);
+    let mut pair = pair;
     let a = layout::access(address, kind, enables, word);
-    let answered = unit::access(u, pair, patc, lines, cells, ram, rom, a);
-    access_answer(unit, reply, answered)
+    let answer = unit::access(&mut u, &mut pair, patc, lines, cells, ram, rom, a);
+    layout::put_registers(unit, u);
+    layout::put_answer(reply, answer);
+    Called { pair, number: 0 }
 }
 
 // One access; one that only touches a line is answered at once.

@@ -16,14 +16,14 @@ fn tables(rt: &impl Print, ram: &mut [u32; 11264]) -> io::Result<()> {
 // One supervisor read, and how it ended.
 fn reading(
     rt: &impl Print,
-    u: Registers,
+    u: &mut Registers,
     patc: &mut [u32; 112],
     lines: &mut [u32; 1280],
     cells: &mut [u32; 4096],
     ram: &mut [u32; 11264],
-) -> io::Result<Registers> {
+) -> io::Result<()> {
     let rom = [0u32; 4];
-    let pair = state::no_fault();
+    let mut pair = state::no_fault();
     let access = Access {
         address: 0x00C05124,
         supervisor: true,
@@ -32,11 +32,8 @@ fn reading(
         enables: 15,
         word: 0,
     };
-    let r = unit::access(u, pair, patc, lines, cells, ram, &rom, access);
-    let answer = r.answer;
-    let outcome = answer.outcome;
-    tell_reading(rt, outcome, answer.words)?;
-    Ok(r.registers)
+    let answer = unit::access(u, &mut pair, patc, lines, cells, ram, &rom, access);
+    tell_reading(rt, answer.outcome, answer.words)
 }
 
 fn tell_reading(rt: &impl Print, outcome: Outcome, words: u32) -> io::Result<()> {

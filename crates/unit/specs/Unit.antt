@@ -64,6 +64,9 @@ pub record Watched : Type 0 where
   pub registers : Registers
   pub answer : Snooped
 
+abbrev pub watched_of : Registers → Snooped → Watched
+watched_of u a = record { registers = u; answer = a }
+
 pub record Snooping : Type 0 where
   pub watched : Watched
   pub lines : List ℕ

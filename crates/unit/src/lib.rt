@@ -2,84 +2,71 @@
 #![tactic(auto)]
 
 ghost use Rattle.std.specs.Prelude.{◌≡◌};
-ghost use Rattle.unit.specs.Unit.{whole, mapped_of, access_of, after_snoop, watched, snoop_of};
+ghost use Rattle.answers.specs.Answers.{accessed};
+ghost use Rattle.unit.specs.Unit.{whole, mapped_of, access_of, watched_of, watched, snoop_of};
 
-use answers::Accessed;
 use snoop::Snooped;
-use state::{Access, FaultPair, Outcome, Registers};
+use state::{Access, Answer, FaultPair, Outcome, Registers};
 
 // An access through the translations and the cache.
 fn mapped(
-    u: Registers,
-    pair: FaultPair,
+    u: &mut Registers,
+    pair: &mut FaultPair,
     patc: &mut [u32; 112],
     lines: &mut [u32; 1280],
     cells: &mut [u32; 4096],
     ram: &mut [u32],
     rom: &[u32],
     access: Access,
-) -> Accessed
-    ensures { whole result patc.new lines.new cells.new ram.new ≡ mapped_of u pair patc.old lines.old cells.old ram.old rom.now access }
+) -> Answer
+    ensures { whole (accessed u.new pair.new result) patc.new lines.new cells.new ram.new ≡ mapped_of u.old pair.old patc.old lines.old cells.old ram.old rom.now access }
 {
-    let ports = u.ports;
     let area = registers::area(u, access.supervisor);
-    let f = flight::begin(access, area, &ports, u.pointer, patc, lines, cells);
-    let g = driver::run(f, patc, lines, cells, ram, rom);
-    answers::flown(u, pair, g)
+    let f = flight::begin(access, area, &u.ports, u.pointer, patc, lines, cells);
+    let f = driver::run(f, patc, lines, cells, ram, rom);
+    answers::flown(u, pair, f)
 }
 
 // One bus access.
+#[tactic(auto, unfolding(crate::specs::Unit::access_of, answers::specs::Answers::plain_of))]
 pub fn access(
-    u: Registers,
-    pair: FaultPair,
+    u: &mut Registers,
+    pair: &mut FaultPair,
     patc: &mut [u32; 112],
     lines: &mut [u32; 1280],
     cells: &mut [u32; 4096],
     ram: &mut [u32],
     rom: &[u32],
     access: Access,
-) -> Accessed
-    ensures { whole result patc.new lines.new cells.new ram.new ≡ access_of u pair patc.old lines.old cells.old ram.old rom.now access }
+) -> Answer
+    ensures { whole (accessed u.new pair.new result) patc.new lines.new cells.new ram.new ≡ access_of u.old pair.old patc.old lines.old cells.old ram.old rom.now access }
 {
     if access.enables == 0 {
-        return answers::plain(u, pair, Outcome::Idle, 0);
+        return answers::plain(Outcome::Idle, 0);
     }
-    if access.supervisor & (0xFFF00000 <= access.address) {
+    if access.supervisor && 0xFFF00000 <= access.address {
         return control::control(u, pair, patc, lines, cells, ram, rom, access);
     }
     mapped(u, pair, patc, lines, cells, ram, rom, access)
 }
 
-// A snoop of another master's transaction; a failed copyback sets CE.
-#[derive(Clone, Copy)]
-pub struct Watched {
-    pub registers: Registers,
-    pub answer: Snooped,
-}
-
-fn after_snoop(u: Registers, answer: Snooped) -> Registers
-    ensures { result ≡ after_snoop u answer }
-{
-    match answer {
-        Snooped::Clear => u,
-        Snooped::Retry => u,
-        Snooped::Failed => registers::with_ssr(u, state::own::ssr(u.ssr) % 32768 + 32768),
-    }
-}
-
+// A snoop of another master's transaction acts if SE and G are set; a failed copyback sets CE.
+#[tactic(auto, unfolding(crate::specs::Unit::snoop_of, crate::specs::Unit::after_snoop, registers::specs::Registers::with_ssr))]
 pub fn snoop(
-    u: Registers,
+    u: &mut Registers,
     lines: &mut [u32; 1280],
     cells: &[u32; 4096],
     ram: &mut [u32],
     address: u32,
     g: bool,
     im: bool,
-) -> Watched
-    ensures { watched result lines.new ram.new ≡ snoop_of u lines.old cells.now ram.old address g im }
+) -> Snooped
+    ensures { watched (watched_of u.new result) lines.new ram.new ≡ snoop_of u.old lines.old cells.now ram.old address g im }
 {
-    let enabled = words::bit(u.sctr, 14) & g;
+    let enabled = words::bit(u.sctr, 14) && g;
     let answer = snoop::snoop(enabled, im, address, lines, cells, ram);
-    let registers = after_snoop(u, answer);
-    Watched { registers, answer }
+    if matches!(answer, Snooped::Failed) {
+        u.ssr = state::own::ssr(u.ssr) % 32768 + 32768;
+    }
+    answer
 }

@@ -13,4 +13,4 @@ unreachable-requires c = c.in_default.ensures.cases (snoop_cells _ _ _ (sym c.sn
 
 pub returns : goal.returns
 unfolding snoop_by
-returns c = rw (c.snoop_reply.ensures, ← c.snoop-number.ensures, eq-eqb _ _ c.if-number-ne0.false, ← c.in-Some.ensures.cases.same, ← c.snoop.ensures)
+returns c = rw (← c.snoop-number.ensures, eq-eqb _ _ c.if-number-ne0.false, ← c.in-Some.ensures.cases.same, ← c.snoop-answer.ensures, c.if-number-ne0.false)
