@@ -17,7 +17,7 @@ fn total(list: &[Transaction; 6]) -> u32
 
 // A fault sets the pair, and nothing else of an access does.
 #[tactic(auto, unfolding(crate::specs::Answers::fault_of))]
-fn settle(pair: &mut FaultPair, outcome: Outcome)
+fn fault(pair: &mut FaultPair, outcome: Outcome)
     ensures { pair.new ≡ fault_of pair.old outcome }
 {
     if let Outcome::Failed(fault) = outcome {
@@ -58,7 +58,7 @@ pub fn flown(u: &mut Registers, pair: &mut FaultPair, f: Flight) -> Answer
         ..
     } = f;
     u.pointer = course.pointer;
-    settle(pair, outcome);
+    fault(pair, outcome);
     Answer {
         outcome,
         list: course.list,

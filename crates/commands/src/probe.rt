@@ -9,7 +9,7 @@ use pages::Translation;
 use state::Registers;
 
 // BE of SSR.
-pub const BUS_ERROR: u32 = 16384;
+pub(crate) const BUS_ERROR: u32 = 16384;
 
 // CE, which flush and probe keep.
 pub fn kept(ssr: u32) -> u32
@@ -37,7 +37,7 @@ fn status(ssr: u32, t: Translation, bh: bool) -> u32
 
 // SSR all clear but CE and what ended the command, SAR the address that ended it.
 #[tactic(auto, unfolding(registers::specs::Registers::with_ssr, registers::specs::Registers::with_sar))]
-pub fn end(u: &mut Registers, why: u32, at: u32)
+pub(crate) fn end(u: &mut Registers, why: u32, at: u32)
     requires { why < 32768 }
     ensures { u.new ≡ with_status u.old (ce_of u.old.ssr + why) at }
 {
