@@ -1,4 +1,5 @@
-// One unit on its memory: accesses and snoops.
+// One unit on its memory: accesses and snoops. What it stands on is lent part by part, as C has it, each in memory of its own: a struct
+// could only hold those loans, and each contract would have to add that they are the same loans afterwards.
 #![tactic(auto)]
 
 ghost use Rattle.std.specs.Prelude.{◌≡◌};
