@@ -6,6 +6,7 @@ ghost use Rattle.commands.specs.Probe.{ce_of, status_of, ran_of, read_by, valid_
 
 use lookup::Place;
 use pages::Translation;
+use pages::tables::{combined, page_at, segment_at};
 use state::Registers;
 
 // BE of SSR.
@@ -79,17 +80,13 @@ fn descriptor(u: &mut Registers, at: u32, words: &mut u32, ram: &[u32], rom: &[u
 fn tables(u: &mut Registers, area: u32, ram: &[u32], rom: &[u32]) -> u32
     ensures { ran_of u.new result ≡ tables_of u.old area ram.now rom.now }
 {
+    let sar = u.sar;
     let mut words = 0;
-    let at = pages::tables::segment_at(area, u.sar);
-    let Some(segment) = descriptor(u, at, &mut words, ram, rom) else {
-        return words;
-    };
-    let at = pages::tables::page_at(segment, u.sar);
-    let Some(page) = descriptor(u, at, &mut words, ram, rom) else {
-        return words;
-    };
-    let t = pages::tables::combined(area, segment, page, u.sar);
-    found(u, t, false);
+    if let Some(segment) = descriptor(u, segment_at(area, sar), &mut words, ram, rom)
+        && let Some(page) = descriptor(u, page_at(segment, sar), &mut words, ram, rom)
+    {
+        found(u, combined(area, segment, page, sar), false);
+    }
     words
 }
 
