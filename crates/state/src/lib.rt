@@ -2,10 +2,13 @@
 #![tactic(auto)]
 
 pub mod own;
+mod places;
 
 ghost use Rattle.std.specs.Prelude.{◌≡◌};
 ghost use Rattle.state.specs.Reset.{reset_of, no_fault};
 ghost use Rattle.state.specs.Outcome.{case_of, value_of, place_of, status_of, pair_of};
+
+pub use places::Place;
 
 // The registers but for the fault pair: 000 to 00C, 104, 200 and 204, the PATC's pointer, and BWP0 to BWP7.
 #[derive(Clone, Copy)]
