@@ -1,7 +1,7 @@
 -- What follows each transaction of the cache.
 use Rattle.std.specs.Prelude.{ℕ, ◌*◌, not, ◌||◌, List, length, ltb}
 use Rattle.words.specs.Words.{pick, keep_of}
-use Rattle.memory.specs.declared.Moved.{Moved}
+use Rattle.memory.specs.Memory.{Moved}
 use Rattle.memory.specs.Memory.{put_of}
 use Rattle.lines.specs.Lines.{marked, filled_of, used_at}
 use Rattle.cells.specs.Cells.{merged_at}

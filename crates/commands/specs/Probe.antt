@@ -1,7 +1,7 @@
 -- The probe of SAR: 20 (user) and 24 (supervisor).
 use Rattle.std.specs.Prelude.{ℕ, ◌+◌, ◌*◌, Bool, true, false, List, Option, Some, None}
 use Rattle.words.specs.Words.{pick, bits_of, bit_of, flag_of}
-use Rattle.memory.specs.declared.Read.{Read}
+use Rattle.memory.specs.Memory.{Read}
 use Rattle.memory.specs.Memory.{read_of}
 use Rattle.state.specs.declared.Registers.{Registers}
 use Rattle.pages.specs.declared.Translation.{Translation}

@@ -8,7 +8,7 @@ use Rattle.std.proofs.Math.Dec.{eqb}
 use Rattle.std.proofs.Math.ListN.{get_or}
 use Rattle.words.specs.Words.{bit_of}
 use Rattle.words.specs.Laws.{either}
-use Rattle.memory.specs.declared.Read.{Read}
+use Rattle.memory.specs.Memory.{Read}
 use Rattle.memory.specs.Memory.{Wrote, read_of as read_word_of, part_of, shown_of, write_word_of, write_line_of, line_fits, in_rom, ram_place}
 use Rattle.lines.specs.Lines.{state_of, modified, tag_word, hit_of, victim_of, marked}
 use Rattle.cells.specs.Cells.{line_words}

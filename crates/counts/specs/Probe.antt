@@ -6,7 +6,7 @@ use native.Mathlib.Omega.{arith}
 use borrow.Author.Tests.{ne_eqb}
 use Rattle.words.specs.Words.{pick, bit_of}
 use Rattle.words.specs.Laws.{either}
-use Rattle.memory.specs.declared.Read.{Read}
+use Rattle.memory.specs.Memory.{Read}
 use Rattle.memory.specs.Memory.{read_of, in_rom, ram_place}
 use Rattle.state.specs.declared.Registers.{Registers}
 use Rattle.state.specs.declared.FaultPair.{FaultPair}

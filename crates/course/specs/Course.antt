@@ -1,7 +1,7 @@
 -- What a flight carries, and how it goes on or ends.
 use Rattle.std.specs.Prelude.{ℕ, ◌+◌, Bool, false, ◌||◌, set, replicate, ltb}
 use Rattle.words.specs.Words.{pick, bit_of}
-use Rattle.memory.specs.declared.Moved.{Moved}
+use Rattle.memory.specs.Memory.{Moved}
 use Rattle.state.specs.declared.Access.{Access}
 use Rattle.state.specs.declared.Transaction.{Transaction}
 use Rattle.state.specs.declared.Outcome.{Outcome}

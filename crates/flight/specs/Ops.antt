@@ -1,8 +1,8 @@
 -- The memory's world, and a flight run over it: each turn moves the words of the one transaction that is wanted.
 use Rattle.std.specs.Prelude.{ℕ, zero, suc, List}
 use Rattle.words.specs.Words.{pick}
-use Rattle.memory.specs.declared.Moved.{Moved}
-use Rattle.memory.specs.declared.Read.{Read}
+use Rattle.memory.specs.Memory.{Moved}
+use Rattle.memory.specs.Memory.{Read}
 use Rattle.cells.specs.Cells.{line_words}
 use Rattle.state.specs.declared.Transaction.{Transaction}
 use Rattle.course.specs.declared.Course.{Course}

@@ -1,8 +1,8 @@
 -- A table search in small steps: what it wants next, and what follows each descriptor.
 use Rattle.std.specs.Prelude.{ℕ, true, false, List, ltb}
 use Rattle.words.specs.Words.{pick, bit_of}
-use Rattle.memory.specs.declared.Moved.{Moved}
-use Rattle.memory.specs.declared.Read.{Read}
+use Rattle.memory.specs.Memory.{Moved}
+use Rattle.memory.specs.Memory.{Read}
 use Rattle.state.specs.declared.Outcome.TheVariants.{Failed}
 use Rattle.pages.specs.declared.Translation.{Translation}
 use Rattle.lookup.specs.declared.Walked.{Walked}

@@ -1,7 +1,7 @@
 -- An access in big steps, in document 01's words: the table search, the cache, inhibited accesses. The world is whatever moves words.
 use Rattle.std.specs.Prelude.{ℕ, ◌+◌, ◌*◌, ◌/◌, Bool, true, false, not, ◌&&◌, ◌||◌, List, length, set, replicate, eqb, ltb}
 use Rattle.words.specs.Words.{pick, bit_of, keep_of}
-use Rattle.memory.specs.declared.Moved.{Moved}
+use Rattle.memory.specs.Memory.{Moved}
 use Rattle.memory.specs.Memory.{put_of}
 use Rattle.lines.specs.Lines.{state_of, modified, tag_word, line_address, hit_of, victim_of, marked, filled_of, used_at}
 use Rattle.cells.specs.Cells.{word_at, merged_at, line_words}

@@ -1,8 +1,10 @@
 -- The cache's directory: 256 sets of 4 lines. A place is 4 x set + number, 0 to 1023.
 -- The directory holds for each set its four tag words, the tag in bits 31-12 and VV in bits 1-0, and then its use code.
-use Rattle.std.specs.Prelude.{ℕ, ◌+◌, ◌*◌, ◌/◌, ◌%◌, Bool, not, ◌&&◌, List, get_or, set, eqb}
+use Rattle.std.specs.Prelude.{ℕ, ◌+◌, ◌*◌, ◌/◌, ◌%◌, Bool, false, not, ◌&&◌, List, [], ◌∷◌, get_or, set, eqb}
 use Rattle.words.specs.Words.{pick, bits_of}
 use Rattle.order.specs.Order.{used_of, earliest_of}
+use Rattle.lines.specs.declared.LineState.{LineState}
+use Rattle.lines.specs.declared.LineState.TheVariants.{Exclusive, Modified, Shared, Invalid}
 
 -- set: physical bits 11-4; tag: bits 31-12
 abbrev pub set_of : ℕ → ℕ
@@ -22,6 +24,12 @@ code_at p = p / 4 * 5 + 4
 abbrev pub state_of : ℕ → ℕ
 state_of w = bits_of w 1 0
 
+abbrev pub vv_of : LineState → ℕ
+vv_of Exclusive = 0
+vv_of Modified = 1
+vv_of Shared = 2
+vv_of Invalid = 3
+
 abbrev pub valid : ℕ → Bool
 valid w = not (eqb (state_of w) 3)
 
@@ -35,6 +43,9 @@ matches w tag = valid w && eqb (tag_of w) tag
 abbrev pub tag_word : List ℕ → ℕ → ℕ
 tag_word ls p = get_or ls (tag_at p) 0
 
+abbrev pub tag_words : List ℕ → ℕ → List ℕ
+tag_words ls p = tag_word ls p ∷ tag_word ls (p + 1) ∷ tag_word ls (p + 2) ∷ tag_word ls (p + 3) ∷ []
+
 -- the address of a line's first word, from its tag and its set
 abbrev pub line_address : ℕ → ℕ → ℕ
 line_address p w = tag_of w * 4096 + p / 4 * 16
@@ -43,6 +54,11 @@ line_address p w = tag_of w * 4096 + p / 4 * 16
 abbrev pub lowest : List ℕ → (ℕ → Bool) → ℕ → ℕ → ℕ
 lowest ls f p other =
     pick (f (tag_word ls p)) p (pick (f (tag_word ls (p + 1))) (p + 1) (pick (f (tag_word ls (p + 2))) (p + 2) (pick (f (tag_word ls (p + 3))) (p + 3) other)))
+
+-- .. by what the test says of each
+abbrev pub lowest_of : List Bool → ℕ → ℕ → ℕ
+lowest_of passes p other =
+    pick (get_or passes 0 false) p (pick (get_or passes 1 false) (p + 1) (pick (get_or passes 2 false) (p + 2) (pick (get_or passes 3 false) (p + 3) other)))
 
 -- a hit is the lowest valid line with the tag; no place is 1024
 unfoldable pub hit_of : List ℕ → ℕ → ℕ

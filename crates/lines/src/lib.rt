@@ -1,11 +1,35 @@
 // The cache's directory: 256 sets of 4 lines. A place is 4 x set + number, 0 to 1023.
 #![tactic(auto)]
 
-ghost use Rattle.std.specs.Prelude.{◌≡◌, ◌*◌, ◌<◌, ◌≤◌, length};
-ghost use Rattle.lines.specs.Lines.{set_of, tag_of, tag_at, code_at, tag_word, state_of, valid, modified, matches, line_address, hit_of, victim_of, with_state, marked, tagged, filled_of, used_at};
+ghost use Rattle.std.specs.Prelude.{ℕ, ◌≡◌, ◌*◌, ◌<◌, unwrap_or};
+ghost use Rattle.lines.specs.Lines.{vv_of, set_of, tag_of, tag_at, code_at, tag_word, tag_words, state_of, valid, modified, matches, line_address, lowest_of, hit_of, victim_of, with_state, marked, tagged, filled_of, used_at};
 ghost use Rattle.memory.specs.Memory.{put_of};
 
 use order::UseOrder;
+use state::Place;
+
+// The state of a line, VV of its tag word: exclusive unmodified, exclusive modified, shared unmodified, invalid.
+#[derive(Clone, Copy, PartialEq, Eq)]
+pub enum LineState {
+    Exclusive,
+    Modified,
+    Shared,
+    Invalid,
+}
+
+impl LineState {
+    // VV.
+    fn bits(self) -> u32
+        ensures { (result ≡ vv_of self) × (result < 4) }
+    {
+        match self {
+            LineState::Exclusive => 0,
+            LineState::Modified => 1,
+            LineState::Shared => 2,
+            LineState::Invalid => 3,
+        }
+    }
+}
 
 // Set: physical bits 11-4.
 pub fn set_of(address: u32) -> usize
@@ -22,47 +46,49 @@ pub fn tag_of(address: u32) -> u32
 }
 
 // Where the tag word of a place stands in the directory.
-fn tag_at(p: usize) -> usize
-    requires { p < 1024 }
+fn tag_at(p: Place) -> usize
     ensures { (result ≡ tag_at p) × (result < 1279) }
 {
-    p / 4 * 5 + p % 4
+    p.set() * 5 + p.number()
 }
 
-// Where the use code of a place's set stands.
-fn code_at(p: usize) -> usize
-    requires { p < 1024 }
+// Where the use code of a set stands.
+fn code_at(p: Place) -> usize
     ensures { (result ≡ code_at p) × (result < 1280) }
 {
-    p / 4 * 5 + 4
+    p.set() * 5 + 4
 }
 
-pub fn tag_word(lines: &[u32; 1280], p: usize) -> u32
-    requires { p < 1024 }
+pub fn tag_word(lines: &[u32; 1280], p: Place) -> u32
     ensures { result ≡ tag_word lines.now p }
 {
     lines[tag_at(p)]
 }
 
-// VV of a tag word: 0 exclusive unmodified, 1 exclusive modified, 2 shared unmodified, 3 invalid.
-pub fn state(word: u32) -> u32
-    ensures { (result ≡ state_of word) × (result < 4) }
+pub fn state(word: u32) -> LineState
+    ensures { vv_of result ≡ state_of word }
 {
-    words::bits(word, 1, 0)
+    match words::bits(word, 1, 0) {
+        0 => LineState::Exclusive,
+        1 => LineState::Modified,
+        2 => LineState::Shared,
+        _ => LineState::Invalid,
+    }
 }
 
 pub fn is_valid(word: u32) -> bool
     ensures { result ≡ valid word }
 {
-    state(word) != 3
+    state(word) != LineState::Invalid
 }
 
 pub fn is_modified(word: u32) -> bool
     ensures { result ≡ modified word }
 {
-    state(word) == 1
+    state(word) == LineState::Modified
 }
 
+#[tactic(auto, unfolding(crate::specs::Lines::matches))]
 fn is_line(word: u32, tag: u32) -> bool
     ensures { result ≡ matches word tag }
 {
@@ -70,96 +96,104 @@ fn is_line(word: u32, tag: u32) -> bool
 }
 
 // The address of the first word of the line at a place, by its tag word.
-pub fn line_address(p: usize, word: u32) -> u32
-    requires { p < 1024 }
+pub fn line_address(p: Place, word: u32) -> u32
     ensures { result ≡ line_address p word }
 {
-    tag_of(word) * 4096 + (p / 4) as u32 * 16
+    tag_of(word) * 4096 + p.set() as u32 * 16
 }
 
-// The place of the line that an address hits, the lowest valid line with its tag; 1024 where none is.
-pub fn hit(lines: &[u32; 1280], address: u32) -> usize
-    ensures { (result ≡ hit_of lines.now address) × (result ≤ 1024) }
+// The tag words of a set's four lines.
+fn tag_words(lines: &[u32; 1280], set: usize) -> [u32; 4]
+    requires { set < 256 }
+    ensures { result ≡ tag_words lines.now (set * 4) }
+{
+    [
+        tag_word(lines, Place::of(set, 0)),
+        tag_word(lines, Place::of(set, 1)),
+        tag_word(lines, Place::of(set, 2)),
+        tag_word(lines, Place::of(set, 3)),
+    ]
+}
+
+// The lowest of a set's four lines that passes a test.
+fn lowest(set: usize, passes: [bool; 4]) -> Option<Place>
+    requires { set < 256 }
+    ensures { (other : ℕ) → unwrap_or result other ≡ lowest_of passes (set * 4) other }
+{
+    let number = passes.iter().position(|&passed| passed)?;
+    Some(Place::of(set, number))
+}
+
+// The line that an address hits: the lowest valid one of its set with its tag.
+#[tactic(auto, unfolding(crate::specs::Lines::hit_of))]
+pub fn hit(lines: &[u32; 1280], address: u32) -> Option<Place>
+    ensures { unwrap_or result 1024 ≡ hit_of lines.now address }
 {
     let tag = tag_of(address);
-    let p = set_of(address) * 4;
-    if is_line(tag_word(lines, p), tag) {
-        return p;
-    }
-    if is_line(tag_word(lines, p + 1), tag) {
-        return p + 1;
-    }
-    if is_line(tag_word(lines, p + 2), tag) {
-        return p + 2;
-    }
-    if is_line(tag_word(lines, p + 3), tag) {
-        return p + 3;
-    }
-    1024
+    let set = set_of(address);
+    lowest(set, tag_words(lines, set).map(|word| is_line(word, tag)))
 }
 
 // The place that a miss takes: the lowest invalid line of the set, else the one earlier than all others, else line 0.
-pub fn victim(lines: &[u32; 1280], address: u32) -> usize
-    ensures { (result ≡ victim_of lines.now address) × (result < 1024) }
+#[tactic(auto, unfolding(crate::specs::Lines::victim_of), using(order::specs::Laws::code_again))]
+pub fn victim(lines: &[u32; 1280], address: u32) -> Place
+    ensures { result ≡ victim_of lines.now address }
 {
-    let p = set_of(address) * 4;
-    if !is_valid(tag_word(lines, p)) {
+    let set = set_of(address);
+    let free = tag_words(lines, set).map(|word| !is_valid(word));
+    if let Some(p) = lowest(set, free) {
         return p;
     }
-    if !is_valid(tag_word(lines, p + 1)) {
-        return p + 1;
-    }
-    if !is_valid(tag_word(lines, p + 2)) {
-        return p + 2;
-    }
-    if !is_valid(tag_word(lines, p + 3)) {
-        return p + 3;
-    }
-    let order = UseOrder::of(lines[code_at(p)]);
-    p + order.victim()
+    let order = UseOrder::of(lines[code_at(Place::of(set, 0))]);
+    Place::of(set, order.victim())
 }
 
-fn with_state(word: u32, state: u32) -> u32
-    requires { state < 4 }
-    ensures { result ≡ with_state word state }
+fn with_state(word: u32, state: LineState) -> u32
+    ensures { result ≡ with_state word (vv_of state) }
 {
-    tag_of(word) * 4096 + state
+    tag_of(word) * 4096 + state.bits()
 }
 
 // Sets the state of one line, and nothing else of it: the only place where a line's state changes.
-pub fn set_state(lines: &mut [u32; 1280], p: usize, state: u32)
-    requires { (p < 1024) × (state < 4) }
-    ensures { lines.new ≡ marked lines.old p state }
+#[tactic(auto, unfolding(crate::specs::Lines::marked))]
+pub fn set_state(lines: &mut [u32; 1280], p: Place, state: LineState)
+    ensures { lines.new ≡ marked lines.old p (vv_of state) }
 {
     let at = tag_at(p);
     lines[at] = with_state(lines[at], state);
 }
 
 // Gives one line the tag of an address; its state stays.
-fn set_tag(lines: &mut [u32; 1280], p: usize, address: u32)
-    requires { p < 1024 }
+#[tactic(auto, unfolding(crate::specs::Lines::tagged))]
+fn set_tag(lines: &mut [u32; 1280], p: Place, address: u32)
     ensures { lines.new ≡ tagged lines.old p address }
 {
     let at = tag_at(p);
-    lines[at] = tag_of(address) * 4096 + state(lines[at]);
+    lines[at] = with_state(address, state(lines[at]));
 }
 
 // Fills one line: the four words, the address's tag, state 2.
-pub fn fill(lines: &mut [u32; 1280], cells: &mut [u32; 4096], p: usize, address: u32, part: &[u32])
-    requires { (p < 1024) × (4 ≤ length part.now) }
+#[tactic(auto, unfolding(crate::specs::Lines::filled_of))]
+pub fn fill(
+    lines: &mut [u32; 1280],
+    cells: &mut [u32; 4096],
+    p: Place,
+    address: u32,
+    part: &[u32; 4],
+)
     ensures { (lines.new ≡ filled_of lines.old p address) × (cells.new ≡ put_of cells.old (p * 4) part.now) }
 {
-    memory::put(cells, p * 4, part);
+    memory::put(cells, p.index() * 4, part);
     set_tag(lines, p, address);
-    set_state(lines, p, 2);
+    set_state(lines, p, LineState::Shared);
 }
 
 // Records the use of one line in its set's code.
-pub fn note_use(lines: &mut [u32; 1280], p: usize)
-    requires { p < 1024 }
+#[tactic(auto, unfolding(crate::specs::Lines::used_at), using(order::specs::Laws::code_again))]
+pub fn note_use(lines: &mut [u32; 1280], p: Place)
     ensures { lines.new ≡ used_at lines.old p }
 {
     let at = code_at(p);
-    let next = UseOrder::of(lines[at]).used(p % 4);
+    let next = UseOrder::of(lines[at]).used(p.number());
     lines[at] = next.code;
 }

@@ -1,16 +1,20 @@
 -- What the host lends: RAM from physical address 0, ROM from FFE00000.
-use Rattle.std.specs.Prelude.{ℕ, ◌+◌, ◌-◌, ◌*◌, ◌/◌, ◌%◌, Bool, true, false, ◌&&◌, List, [], length, get_or, set, take, drop, eqb, ltb, leb}
+use Rattle.std.specs.Prelude.{ℕ, ◌+◌, ◌-◌, ◌*◌, ◌/◌, ◌%◌, Bool, true, false, ◌&&◌, List, [], length, get_or, set, take, drop, eqb, ltb, leb, Result, Ok, Err}
+use Rattle.std.proofs.Common.{Bor}
 use Rattle.words.specs.Words.{pick, merge_of}
-use Rattle.memory.specs.declared.Moved.{Moved}
-use Rattle.memory.specs.declared.Read.{Read}
+use Rattle.memory.specs.declared.BusError.{BusError}
 
--- RAM: a multiple of 4, at most 4,194,304
+-- an area's length: a multiple of 4, up to a limit
+abbrev pub is_area : ℕ → ℕ → Bool
+is_area limit n = eqb (n % 4) 0 && leb n limit
+
+-- RAM: at most 4,194,304
 abbrev pub ram_rule : ℕ → Bool
-ram_rule n = eqb (n % 4) 0 && leb n 4194304
+ram_rule n = is_area 4194304 n
 
--- ROM: a multiple of 4, at most 262,144
+-- ROM: at most 262,144
 abbrev pub rom_rule : ℕ → Bool
-rom_rule n = eqb (n % 4) 0 && leb n 262144
+rom_rule n = is_area 262144 n
 
 -- where a word, and the first word of a line, would stand in RAM
 abbrev pub ram_place : ℕ → ℕ
@@ -22,6 +26,17 @@ ram_line address = address / 16 * 4
 -- ROM's first word, FFE00000 / 4
 abbrev pub rom_word : ℕ
 rom_word = 1073217536
+
+-- what a transaction moved: did it end well, the words to list, and else where it failed
+pub record Moved : Type 0 where
+  pub ok : Bool
+  pub words : ℕ
+  pub failing : ℕ
+
+-- a word read, 0 where none could be
+pub record Read : Type 0 where
+  pub moved : Moved
+  pub word : ℕ
 
 -- a transaction that ended well, with its words, and one that failed at an address
 abbrev pub moved_of : ℕ → Moved
@@ -56,6 +71,19 @@ read_of ram rom address =
     (pick (in_rom rom (ram_place address) 1)
     (record { moved = moved_of 1; word = get_or rom (ram_place address - rom_word) 0 })
     (unread_of address))
+
+-- the same of what the code answers: a transaction of n words, a word read, a line shown
+abbrev pub moved_in : {A : Type 0} → ℕ → Result A BusError → Moved
+moved_in n (Ok x) = moved_of n
+moved_in n (Err e) = failed_of e.address
+
+abbrev pub read_in : Result ℕ BusError → Read
+read_in (Ok word) = record { moved = moved_of 1; word = word }
+read_in (Err e) = unread_of e.address
+
+abbrev pub part_in : Result (Bor (List ℕ)) BusError → List ℕ
+part_in (Ok part) = part.now
+part_in (Err e) = []
 
 -- what a write moved, and RAM after it
 pub record Wrote : Type 0 where

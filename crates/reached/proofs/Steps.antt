@@ -9,8 +9,8 @@ use Rattle.std.proofs.Math.Dec.{eqb, ltb}
 use borrow.Author.Tests.{ltb-true, ltb-false}
 use Rattle.words.specs.Words.{bit_of, bits_of}
 use Rattle.words.specs.Laws.{either}
-use Rattle.memory.specs.declared.Moved.{Moved}
-use Rattle.memory.specs.declared.Read.{Read}
+use Rattle.memory.specs.Memory.{Moved}
+use Rattle.memory.specs.Memory.{Read}
 use Rattle.memory.specs.Memory.{Wrote, read_of as read_word_of, part_of, shown_of, write_word_of, write_line_of}
 use Rattle.lines.specs.Lines.{set_of, state_of, valid, modified, tag_word, line_address, hit_of, victim_of, marked, used_at}
 use Rattle.cells.specs.Cells.{line_words}

@@ -7,7 +7,7 @@ use native.Mathlib.Omega.{arith}
 use Rattle.std.proofs.Math.ListN.{length-set}
 use Rattle.words.specs.Words.{bit_of, bits_of, flag_of}
 use Rattle.words.specs.Laws.{either}
-use Rattle.memory.specs.declared.Read.{Read}
+use Rattle.memory.specs.Memory.{Read}
 use Rattle.memory.specs.Memory.{read_of as read_word_of}
 use Rattle.state.specs.declared.Registers.{Registers}
 use Rattle.state.specs.declared.FaultPair.{FaultPair}

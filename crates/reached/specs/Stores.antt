@@ -3,8 +3,8 @@ use Rattle.std.specs.Prelude.{ℕ, zero, suc, ◌+◌, ◌-◌, ◌*◌, ◌^◌
 use Rattle.std.proofs.Common.{◌∙◌, arith, length-set, get_or-drop}
 use Rattle.memory.specs.Laws.{length_put}
 use Rattle.words.specs.Laws.{either, merge_small}
-use Rattle.memory.specs.declared.Moved.{Moved}
-use Rattle.memory.specs.declared.Read.{Read}
+use Rattle.memory.specs.Memory.{Moved}
+use Rattle.memory.specs.Memory.{Read}
 use Rattle.memory.specs.Memory.{ram_place, ram_line, rom_word, in_rom, line_fits, part_of, shown_of, read_of, Wrote, write_word_of, put_of, write_line_of}
 use Rattle.cells.specs.Cells.{cell_at, merged_at, line_words}
 use Rattle.fields.specs.Fields.{Words}
