@@ -1,105 +1,125 @@
 // What follows each transaction of the cache.
 #![tactic(auto)]
 
-ghost use Rattle.std.specs.Prelude.{◌≡◌, ◌<◌, length};
+ghost use Rattle.std.specs.Prelude.{◌≡◌};
+ghost use Rattle.memory.specs.Memory.{moved_of, moved_in, read_in, part_in};
+ghost use Rattle.lines.specs.Lines.{marked};
+ghost use Rattle.course.specs.Course.{listed_of, failed_of};
 ghost use Rattle.course.specs.Next.{lined, cached};
 ghost use Rattle.after.specs.After.{back_of, drop_of, fill_of, settled_of, store_of, word_of};
 
 use course::{Course, Flight};
-use memory::Moved;
+use lines::LineState;
+use memory::BusError;
 use state::Outcome;
 
 // After a victim's copyback: the fill. A victim that could not be copied back stays modified.
-pub fn take_back(c: Course, moved: Moved) -> Flight
-    requires { c.place < 1024 }
-    ensures { (result ≡ back_of c moved) × (result.course.place < 1024) }
+#[tactic(auto, unfolding(crate::specs::After::back_of, course::specs::Course::listed_of))]
+pub fn take_back(c: Course, moved: Result<(), BusError>) -> Flight
+    ensures { result ≡ back_of c (moved_in 4 moved) }
 {
-    let d = course::listed(c, moved);
-    if moved.ok {
-        return course::next::filling(d);
+    match moved {
+        Ok(()) => course::next::filling(course::listed(c, 4)),
+        Err(e) => course::bus_error(c, e),
     }
-    course::failed(d, 3, moved.failing)
 }
 
 // After an inhibited hit's copyback: the line is invalid, and the single word follows. A failed copyback leaves the line.
-pub fn take_drop(c: Course, lines: &mut [u32; 1280], moved: Moved) -> Flight
-    requires { c.place < 1024 }
-    ensures { (lined result lines.new ≡ drop_of c lines.old moved) × (result.course.place < 1024) }
+#[tactic(auto, unfolding(crate::specs::After::drop_of, course::specs::Course::listed_of))]
+pub fn take_drop(c: Course, lines: &mut [u32; 1280], moved: Result<(), BusError>) -> Flight
+    ensures { lined result lines.new ≡ drop_of c lines.old (moved_in 4 moved) }
 {
-    let d = course::listed(c, moved);
-    if moved.ok {
-        let p = c.place;
-        lines::set_state(lines, p, 3);
-        return course::next::single(d);
+    match moved {
+        Ok(()) => {
+            lines::set_state(lines, c.place, LineState::Invalid);
+            course::next::single(course::listed(c, 4))
+        }
+        Err(e) => course::bus_error(c, e),
     }
-    course::failed(d, 3, moved.failing)
 }
 
-// After a fill: the word, or the word's write. A failed fill leaves the line invalid, old tag and data kept.
+// A failed fill leaves the line invalid, old tag and data kept.
+fn unfilled(c: Course, lines: &mut [u32; 1280], e: BusError) -> Flight
+    ensures { (result ≡ failed_of (listed_of c (moved_of 0)) 3 e.address) × (lines.new ≡ marked lines.old c.place 3) }
+{
+    let p = c.place;
+    lines::set_state(lines, p, LineState::Invalid);
+    course::bus_error(c, e)
+}
+
+// A filled line gives the word, or takes it once memory has it.
+#[tactic(auto, unfolding(crate::specs::After::fill_of, course::specs::Course::listed_of))]
+fn filled(c: Course, lines: &mut [u32; 1280], cells: &mut [u32; 4096], part: &[u32; 4]) -> Flight
+    ensures { cached result lines.new cells.new ≡ fill_of c lines.old cells.old part.now (moved_of 4) }
+{
+    let p = c.place;
+    lines::fill(lines, cells, p, c.t.address, part);
+    let d = course::listed(c, 4);
+    if d.access.write {
+        return course::next::storing(d);
+    }
+    course::next::read_hit(d, p, lines, cells)
+}
+
+// After a fill: the word, or the word's write.
+#[tactic(auto, unfolding(crate::specs::After::fill_of, course::specs::Course::listed_of))]
 pub fn take_fill(
     c: Course,
     lines: &mut [u32; 1280],
     cells: &mut [u32; 4096],
-    part: &[u32],
-    moved: Moved,
+    shown: Result<&[u32; 4], BusError>,
 ) -> Flight
-    requires { c.place < 1024 }
-    ensures { (cached result lines.new cells.new ≡ fill_of c lines.old cells.old part.now moved) × (result.course.place < 1024) }
+    ensures { cached result lines.new cells.new ≡ fill_of c lines.old cells.old (part_in shown.entry) (moved_in 4 shown.entry) }
 {
-    let d = course::listed(c, moved);
-    if !moved.ok | (part.len() < 4) {
-        lines::set_state(lines, c.place, 3);
-        return course::failed(d, 3, moved.failing);
+    match shown {
+        Ok(part) => filled(c, lines, cells, part),
+        Err(e) => unfilled(c, lines, e),
     }
-    lines::fill(lines, cells, c.place, c.t.address, part);
-    if c.access.write {
-        return course::next::storing(d);
-    }
-    course::next::read_hit(d, c.place, lines, cells)
 }
 
 // The line once memory has its word: it is used, and exclusive; under WT its state stays.
-fn settle(c: Course, lines: &mut [u32; 1280])
-    requires { c.place < 1024 }
-    ensures { lines.new ≡ settled_of c lines.old }
+#[tactic(auto, unfolding(crate::specs::After::settled_of))]
+fn settle(c: &Course, lines: &mut [u32; 1280])
+    ensures { lines.new ≡ settled_of c.now lines.old }
 {
     lines::note_use(lines, c.place);
-    if c.t.wt {
-        return;
+    if !c.t.wt {
+        lines::set_state(lines, c.place, LineState::Exclusive);
     }
-    lines::set_state(lines, c.place, 0);
 }
 
 // After the word's write to memory: the line takes it too. A failed memory write changes no line.
+#[tactic(auto, unfolding(crate::specs::After::store_of, course::specs::Course::listed_of))]
 pub fn take_store(
     c: Course,
     lines: &mut [u32; 1280],
     cells: &mut [u32; 4096],
-    moved: Moved,
+    moved: Result<(), BusError>,
 ) -> Flight
-    requires { c.place < 1024 }
-    ensures { (cached result lines.new cells.new ≡ store_of c lines.old cells.old moved) × (result.course.place < 1024) }
+    ensures { cached result lines.new cells.new ≡ store_of c lines.old cells.old (moved_in 1 moved) }
 {
-    let d = course::listed(c, moved);
-    if moved.ok {
-        cells::merge(cells, c.place, c.t.address, c.access.enables, c.access.word);
-        settle(c, lines);
-        return course::ended(d, Outcome::Written);
+    match moved {
+        Ok(()) => {
+            cells::merge(cells, c.place, c.t.address, c.access.enables, c.access.word);
+            settle(&c, lines);
+            course::ended(course::listed(c, 1), Outcome::Written)
+        }
+        Err(e) => course::bus_error(c, e),
     }
-    course::failed(d, 3, moved.failing)
 }
 
-// After the single word of an inhibited access.
-pub fn take_single(c: Course, moved: Moved, word: u32) -> Flight
-    requires { c.place < 1024 }
-    ensures { (result ≡ word_of c moved word) × (result.course.place < 1024) }
+// After the single word of an inhibited access; a write has read no word.
+#[tactic(auto, unfolding(crate::specs::After::word_of, course::specs::Course::listed_of))]
+pub fn take_single(c: Course, read: Result<u32, BusError>) -> Flight
+    ensures { result ≡ word_of c (read_in read).moved (read_in read).word }
 {
-    let d = course::listed(c, moved);
-    if moved.ok {
-        if c.access.write {
-            return course::ended(d, Outcome::Written);
-        }
-        return course::ended(d, Outcome::Word(words::keep(c.access.enables, word)));
+    let a = c.access;
+    match read {
+        Ok(_) if a.write => course::ended(course::listed(c, 1), Outcome::Written),
+        Ok(word) => course::ended(
+            course::listed(c, 1),
+            Outcome::Word(words::keep(a.enables, word)),
+        ),
+        Err(e) => course::bus_error(c, e),
     }
-    course::failed(d, 3, moved.failing)
 }

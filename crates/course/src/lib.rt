@@ -4,11 +4,12 @@
 pub mod next;
 
 ghost use Rattle.std.specs.Prelude.{◌≡◌, ◌<◌};
-ghost use Rattle.course.specs.Course.{no_transaction, no_translation, fresh_of, slot_of, with_want, with_translation, with_place, with_entry, with_descriptor, with_pointer, listed_of, wanting_of, ended_of, failed_of, carried_of, searched_of};
+ghost use Rattle.memory.specs.Memory.{moved_of};
+ghost use Rattle.course.specs.Course.{no_transaction, no_translation, fresh_of, slot_of, with_want, listed_of, wanting_of, ended_of, failed_of, carried_of, searched_of};
 
-use memory::Moved;
+use memory::BusError;
 use pages::Translation;
-use state::{Access, Fault, Outcome, Transaction};
+use state::{Access, Fault, Outcome, Place, Transaction};
 
 // Which transaction is wanted next.
 #[derive(Clone, Copy)]
@@ -38,7 +39,7 @@ pub struct Course {
     pub pointer: u32,
     // the translation, and the line's place
     pub t: Translation,
-    pub place: usize,
+    pub place: Place,
 }
 
 #[derive(Clone, Copy)]
@@ -63,11 +64,11 @@ pub fn no_transaction() -> Transaction
     }
 }
 
+#[tactic(auto, unfolding(crate::specs::Course::fresh_of))]
 pub fn fresh(access: Access, area: u32, pointer: u32) -> Course
-    ensures { (result ≡ fresh_of access area pointer) × (result.place ≡ 0) }
+    ensures { result ≡ fresh_of access area pointer }
 {
     let none = no_transaction();
-    let list = [none; 6];
     let t = Translation {
         address: 0,
         wt: false,
@@ -81,63 +82,15 @@ pub fn fresh(access: Access, area: u32, pointer: u32) -> Course
     Course {
         access,
         want: none,
-        list,
+        list: [none; 6],
         count: 0,
         area,
         entry: 56,
         descriptor: 0,
         pointer,
         t,
-        place: 0,
+        place: Place::of(0, 0),
     }
-}
-
-pub fn with_want(c: Course, want: Transaction) -> Course
-    ensures { (result ≡ with_want c want) × (result.place ≡ c.place) }
-{
-    let mut d = c;
-    d.want = want;
-    d
-}
-
-pub fn with_translation(c: Course, t: Translation) -> Course
-    ensures { (result ≡ with_translation c t) × (result.place ≡ c.place) }
-{
-    let mut d = c;
-    d.t = t;
-    d
-}
-
-pub fn with_place(c: Course, place: usize) -> Course
-    ensures { (result ≡ with_place c place) × (result.place ≡ place) }
-{
-    let mut d = c;
-    d.place = place;
-    d
-}
-
-pub fn with_entry(c: Course, entry: usize) -> Course
-    ensures { (result ≡ with_entry c entry) × (result.place ≡ c.place) }
-{
-    let mut d = c;
-    d.entry = entry;
-    d
-}
-
-pub fn with_descriptor(c: Course, descriptor: u32) -> Course
-    ensures { (result ≡ with_descriptor c descriptor) × (result.place ≡ c.place) }
-{
-    let mut d = c;
-    d.descriptor = descriptor;
-    d
-}
-
-pub fn with_pointer(c: Course, pointer: u32) -> Course
-    ensures { (result ≡ with_pointer c pointer) × (result.place ≡ c.place) }
-{
-    let mut d = c;
-    d.pointer = pointer;
-    d
 }
 
 // Where the next transaction is listed. There are never more than six.
@@ -148,30 +101,30 @@ fn slot(count: usize) -> usize
 }
 
 // The wanted transaction listed, with the words that it moved.
-pub fn listed(c: Course, moved: Moved) -> Course
-    ensures { (result ≡ listed_of c moved) × (result.place ≡ c.place) }
+#[tactic(auto, unfolding(crate::specs::Course::listed_of))]
+pub fn listed(c: Course, words: u8) -> Course
+    ensures { result ≡ listed_of c (moved_of words) }
 {
     let n = slot(c.count);
-    let mut t = c.want;
-    t.words = moved.words;
     let mut d = c;
-    d.list[n] = t;
+    d.list[n] = Transaction { words, ..c.want };
     d.count = n + 1;
     d
 }
 
-pub fn wanting(c: Course, stage: Stage) -> Flight
-    ensures { (result ≡ wanting_of c stage) × (result.course.place ≡ c.place) }
+#[tactic(auto, unfolding(crate::specs::Course::with_want))]
+pub fn wanting(c: Course, want: Transaction, stage: Stage) -> Flight
+    ensures { result ≡ wanting_of (with_want c want) stage }
 {
     Flight {
         stage,
         outcome: Outcome::Idle,
-        course: c,
+        course: Course { want, ..c },
     }
 }
 
 pub fn ended(c: Course, outcome: Outcome) -> Flight
-    ensures { (result ≡ ended_of c outcome) × (result.course.place ≡ c.place) }
+    ensures { result ≡ ended_of c outcome }
 {
     Flight {
         stage: Stage::Done,
@@ -182,14 +135,22 @@ pub fn ended(c: Course, outcome: Outcome) -> Flight
 
 // Any fault ends the access.
 pub fn failed(c: Course, code: u32, address: u32) -> Flight
-    ensures { (result ≡ failed_of c code address) × (result.course.place ≡ c.place) }
+    ensures { result ≡ failed_of c code address }
 {
     ended(c, Outcome::Failed(Fault { code, address }))
 }
 
+// The wanted transaction met a bus error: it is listed without words, and the access ends in fault 3.
+pub fn bus_error(c: Course, e: BusError) -> Flight
+    ensures { result ≡ failed_of (listed_of c (moved_of 0)) 3 e.address }
+{
+    failed(listed(c, 0), 3, e.address)
+}
+
 // A transaction of a search: G is the area's, CI 0.
-pub fn searched(c: Course, write: bool, address: u32) -> Transaction
-    ensures { result ≡ searched_of c write address }
+#[tactic(auto, unfolding(crate::specs::Course::searched_of))]
+pub fn searched(c: &Course, write: bool, address: u32) -> Transaction
+    ensures { result ≡ searched_of c.now write address }
 {
     Transaction {
         write,
@@ -203,8 +164,9 @@ pub fn searched(c: Course, write: bool, address: u32) -> Transaction
 }
 
 // A transaction for the access's own data: CI is 1 if it is locked, else the translation's.
+#[tactic(auto, unfolding(crate::specs::Course::carried_of))]
 pub fn carried(
-    c: Course,
+    c: &Course,
     write: bool,
     address: u32,
     words: u8,
@@ -212,7 +174,7 @@ pub fn carried(
     im: bool,
     lk: bool,
 ) -> Transaction
-    ensures { result ≡ carried_of c write address words g im lk }
+    ensures { result ≡ carried_of c.now write address words g im lk }
 {
     Transaction {
         write,

@@ -10,8 +10,7 @@ ghost use Rattle.driver.specs.Alone.{memory, alone};
 use course::{Course, Flight, Stage};
 
 fn segment(c: Course, ram: &[u32], rom: &[u32]) -> Flight
-    requires { c.place < 1024 }
-    ensures { (result ≡ segment_of c (read_of ram.now rom.now c.want.address)) × (result.course.place < 1024) }
+    ensures { result ≡ segment_of c (read_of ram.now rom.now c.want.address) }
 {
     let read = memory::read_word(ram, rom, c.want.address);
     flight::search::take_segment(c, read)
@@ -25,8 +24,7 @@ fn page(
     ram: &[u32],
     rom: &[u32],
 ) -> Flight
-    requires { c.place < 1024 }
-    ensures { (flown result patc.new lines.new cells.new ≡ page_of c patc.old lines.old cells.old (read_of ram.now rom.now c.want.address)) × (result.course.place < 1024) }
+    ensures { flown result patc.new lines.new cells.new ≡ page_of c patc.old lines.old cells.old (read_of ram.now rom.now c.want.address) }
 {
     let read = memory::read_word(ram, rom, c.want.address);
     flight::search::take_page(c, patc, lines, cells, read)
@@ -39,14 +37,15 @@ fn update(
     cells: &mut [u32; 4096],
     ram: &mut [u32],
 ) -> Flight
-    requires { c.place < 1024 }
-    ensures { (flown result patc.new lines.new cells.new ≡ update_of c patc.old lines.old cells.old (write_word_of ram.old c.want.address 15 c.descriptor).moved) × (ram.new ≡ (write_word_of ram.old c.want.address 15 c.descriptor).ram) × (result.course.place < 1024) }
+    ensures flight { flown result patc.new lines.new cells.new ≡ update_of c patc.old lines.old cells.old (write_word_of ram.old c.want.address 15 c.descriptor).moved }
+    ensures ram { ram.new ≡ (write_word_of ram.old c.want.address 15 c.descriptor).ram }
 {
     let moved = memory::write_word(ram, c.want.address, 15, c.descriptor);
     flight::search::take_update(c, patc, lines, cells, moved)
 }
 
 // One turn: the transaction that the flight wants.
+#[tactic(auto, unfolding(flight::specs::Ops::turn_of, flight::specs::Ops::turn_at), using(crate::specs::Turns::cache_turn))]
 pub fn turn(
     f: Flight,
     patc: &mut [u32; 112],
@@ -55,12 +54,10 @@ pub fn turn(
     ram: &mut [u32],
     rom: &[u32],
 ) -> Flight
-    requires { f.course.place < 1024 }
-    ensures { (system result patc.new lines.new cells.new (memory ram.new rom.now) ≡ turn_of alone (system f patc.old lines.old cells.old (memory ram.old rom.now))) × (result.course.place < 1024) }
+    ensures { system result patc.new lines.new cells.new (memory ram.new rom.now) ≡ turn_of alone (system f patc.old lines.old cells.old (memory ram.old rom.now)) }
 {
     let c = f.course;
-    let stage = f.stage;
-    match stage {
+    match f.stage {
         Stage::Segment => segment(c, ram, rom),
         Stage::Page => page(c, patc, lines, cells, ram, rom),
         Stage::Update => update(c, patc, lines, cells, ram),
@@ -77,18 +74,14 @@ pub fn run(
     ram: &mut [u32],
     rom: &[u32],
 ) -> Flight
-    requires { f.course.place < 1024 }
     ensures { system result patc.new lines.new cells.new (memory ram.new rom.now) ≡ left_of alone 6 (system f patc.old lines.old cells.old (memory ram.old rom.now)) }
 {
     let mut g = f;
-    let mut left: u32 = 6;
-    while 0 < left {
-        let stage = g.stage;
-        if let Stage::Done = stage {
+    for _turn in 0..6usize {
+        if let Stage::Done = g.stage {
             return g;
         }
         g = turn(g, patc, lines, cells, ram, rom);
-        left -= 1;
     }
     g
 }

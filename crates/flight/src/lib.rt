@@ -12,21 +12,19 @@ use lookup::Lookup;
 use state::{Access, Outcome};
 
 // Goes on with the translation, ends in a fault, or searches the tables.
+#[tactic(auto, unfolding(crate::specs::Begin::go_of, course::specs::Course::with_translation))]
 fn go(c: Course, next: Lookup, lines: &mut [u32; 1280], cells: &mut [u32; 4096]) -> Flight
-    requires { c.place < 1024 }
-    ensures { (cached result lines.new cells.new ≡ go_of c next lines.old cells.old) × (result.course.place < 1024) }
+    ensures { cached result lines.new cells.new ≡ go_of c next lines.old cells.old }
 {
     match next {
-        Lookup::Found(t) => {
-            let d = course::with_translation(c, t);
-            cache::enter(d, lines, cells)
-        }
+        Lookup::Found(t) => cache::enter(Course { t, ..c }, lines, cells),
         Lookup::Violation(fault) => course::ended(c, Outcome::Failed(fault)),
         Lookup::Search(entry) => search::start(c, entry),
     }
 }
 
 // Begins an access that is neither idle nor in control space.
+#[tactic(auto, unfolding(crate::specs::Begin::begin_of))]
 pub fn begin(
     access: Access,
     area: u32,
@@ -36,7 +34,7 @@ pub fn begin(
     lines: &mut [u32; 1280],
     cells: &mut [u32; 4096],
 ) -> Flight
-    ensures { (cached result lines.new cells.new ≡ begin_of access area ports.now pointer patc.now lines.old cells.old) × (result.course.place < 1024) }
+    ensures { cached result lines.new cells.new ≡ begin_of access area ports.now pointer patc.now lines.old cells.old }
 {
     let c = course::fresh(access, area, pointer);
     let found = lookup::find(area, ports, patc, access.address, access.supervisor);

@@ -1,63 +1,74 @@
 // A table search, one descriptor at a time; and the entry that it loads or renews.
-ghost use Rattle.std.specs.Prelude.{◌≡◌, ◌<◌, length};
+ghost use Rattle.std.specs.Prelude.{◌≡◌};
+ghost use Rattle.memory.specs.Memory.{word_read, moved_in, read_in};
 ghost use Rattle.flight.specs.Search.{flown, start_of, segment_of, updating_of, loaded_of, walk_of, page_of, update_of};
 
 use course::{Course, Flight, Stage};
 use lookup::Walked;
-use memory::{Moved, Read};
+use memory::BusError;
 use pages::Translation;
 use state::Outcome;
 
 // Wants the segment descriptor; a hit that found M clear names its entry.
+#[tactic(auto, unfolding(crate::specs::Search::start_of, course::specs::Course::with_entry, course::specs::Course::searched_of))]
 pub fn start(c: Course, entry: usize) -> Flight
-    requires { c.place < 1024 }
-    ensures { (result ≡ start_of c entry) × (result.course.place < 1024) }
+    ensures { result ≡ start_of c entry }
 {
     let at = pages::tables::segment_at(c.area, c.access.address);
-    let d = course::with_entry(c, entry);
-    let t = course::searched(c, false, at);
-    course::wanting(course::with_want(d, t), Stage::Segment)
+    let d = Course { entry, ..c };
+    let t = course::searched(&d, false, at);
+    course::wanting(d, t, Stage::Segment)
 }
 
-// After the segment descriptor: the page descriptor. V clear is fault 4.
-pub fn take_segment(c: Course, read: Read) -> Flight
-    requires { c.place < 1024 }
-    ensures { (result ≡ segment_of c read) × (result.course.place < 1024) }
+// The segment descriptor, read: V clear is fault 4.
+#[tactic(auto, unfolding(crate::specs::Search::segment_of, course::specs::Course::listed_of, course::specs::Course::with_descriptor, course::specs::Course::searched_of))]
+fn segment(c: Course, descriptor: u32) -> Flight
+    ensures { result ≡ segment_of c (word_read descriptor) }
 {
-    let moved = read.moved;
-    let d = course::listed(c, moved);
-    if moved.ok {
-        if words::bit(read.word, 0) {
-            let at = pages::tables::page_at(read.word, c.access.address);
-            let e = course::with_descriptor(d, read.word);
-            let t = course::searched(c, false, at);
-            return course::wanting(course::with_want(e, t), Stage::Page);
-        }
-        return course::failed(d, 4, c.want.address);
+    let here = c.want.address;
+    let listed = course::listed(c, 1);
+    if !words::bit(descriptor, 0) {
+        return course::failed(listed, 4, here);
     }
-    course::failed(d, 3, moved.failing)
+    let d = Course {
+        descriptor,
+        ..listed
+    };
+    let at = pages::tables::page_at(descriptor, d.access.address);
+    let t = course::searched(&d, false, at);
+    course::wanting(d, t, Stage::Page)
+}
+
+// After the segment descriptor: the page descriptor.
+#[tactic(auto, unfolding(crate::specs::Search::segment_of, course::specs::Course::listed_of))]
+pub fn take_segment(c: Course, read: Result<u32, BusError>) -> Flight
+    ensures { result ≡ segment_of c (read_in read) }
+{
+    match read {
+        Ok(descriptor) => segment(c, descriptor),
+        Err(e) => course::bus_error(c, e),
+    }
 }
 
 // Wants the page descriptor written back where it was read.
+#[tactic(auto, unfolding(crate::specs::Search::updating_of, course::specs::Course::with_descriptor, course::specs::Course::with_translation, course::specs::Course::searched_of))]
 fn updating(c: Course, t: Translation, descriptor: u32) -> Flight
-    requires { c.place < 1024 }
-    ensures { (result ≡ updating_of c t descriptor) × (result.course.place < 1024) }
+    ensures { result ≡ updating_of c t descriptor }
 {
-    let d = course::with_translation(c, t);
-    let e = course::with_descriptor(d, descriptor);
-    let w = course::searched(c, true, c.want.address);
-    course::wanting(course::with_want(e, w), Stage::Update)
+    let d = Course { t, descriptor, ..c };
+    let w = course::searched(&d, true, d.want.address);
+    course::wanting(d, w, Stage::Update)
 }
 
 // Loads an entry for the translation that stands, or renews the one that was hit, and goes to the cache.
+#[tactic(auto, unfolding(crate::specs::Search::loaded_of, course::specs::Course::with_pointer))]
 fn loaded(
     c: Course,
     patc: &mut [u32; 112],
     lines: &mut [u32; 1280],
     cells: &mut [u32; 4096],
 ) -> Flight
-    requires { c.place < 1024 }
-    ensures { (flown result patc.new lines.new cells.new ≡ loaded_of c patc.old lines.old cells.old) × (result.course.place < 1024) }
+    ensures { flown result patc.new lines.new cells.new ≡ loaded_of c patc.old lines.old cells.old }
 {
     let page = pages::tables::page_word(c.access.address, c.access.supervisor);
     let frame = pages::tables::frame_word(c.t);
@@ -67,10 +78,11 @@ fn loaded(
         return cache::enter(c, lines, cells);
     }
     let pointer = patc::load(patc, c.pointer, page, frame);
-    cache::enter(course::with_pointer(c, pointer), lines, cells)
+    cache::enter(Course { pointer, ..c }, lines, cells)
 }
 
 // What a search does with both descriptors.
+#[tactic(auto, unfolding(crate::specs::Search::walk_of, course::specs::Course::with_translation))]
 fn walk(
     c: Course,
     walked: Walked,
@@ -78,64 +90,66 @@ fn walk(
     lines: &mut [u32; 1280],
     cells: &mut [u32; 4096],
 ) -> Flight
-    requires { c.place < 1024 }
-    ensures { (flown result patc.new lines.new cells.new ≡ walk_of c walked patc.old lines.old cells.old) × (result.course.place < 1024) }
+    ensures { flown result patc.new lines.new cells.new ≡ walk_of c walked patc.old lines.old cells.old }
 {
     match walked {
         Walked::Violation(fault) => course::ended(c, Outcome::Failed(fault)),
         Walked::Update(t, descriptor) => updating(c, t, descriptor),
-        Walked::Complete(t) => {
-            let d = course::with_translation(c, t);
-            loaded(d, patc, lines, cells)
-        }
+        Walked::Complete(t) => loaded(Course { t, ..c }, patc, lines, cells),
     }
 }
 
-// After the page descriptor. V clear is fault 5.
+// The page descriptor, read: V clear is fault 5.
+#[tactic(auto, unfolding(crate::specs::Search::page_of, course::specs::Course::listed_of))]
+fn page(
+    c: Course,
+    patc: &mut [u32; 112],
+    lines: &mut [u32; 1280],
+    cells: &mut [u32; 4096],
+    page: u32,
+) -> Flight
+    ensures { flown result patc.new lines.new cells.new ≡ page_of c patc.old lines.old cells.old (word_read page) }
+{
+    let here = c.want.address;
+    let d = course::listed(c, 1);
+    if !words::bit(page, 0) {
+        return course::failed(d, 5, here);
+    }
+    let a = d.access;
+    let walked = lookup::finish(d.area, d.descriptor, page, a.address, a.supervisor, a.write);
+    walk(d, walked, patc, lines, cells)
+}
+
+// After the page descriptor: its update, or the entry.
+#[tactic(auto, unfolding(crate::specs::Search::page_of, course::specs::Course::listed_of))]
 pub fn take_page(
     c: Course,
     patc: &mut [u32; 112],
     lines: &mut [u32; 1280],
     cells: &mut [u32; 4096],
-    read: Read,
+    read: Result<u32, BusError>,
 ) -> Flight
-    requires { c.place < 1024 }
-    ensures { (flown result patc.new lines.new cells.new ≡ page_of c patc.old lines.old cells.old read) × (result.course.place < 1024) }
+    ensures { flown result patc.new lines.new cells.new ≡ page_of c patc.old lines.old cells.old (read_in read) }
 {
-    let moved = read.moved;
-    let d = course::listed(c, moved);
-    if moved.ok {
-        if words::bit(read.word, 0) {
-            let a = c.access;
-            let walked = lookup::finish(
-                c.area,
-                c.descriptor,
-                read.word,
-                a.address,
-                a.supervisor,
-                a.write,
-            );
-            return walk(d, walked, patc, lines, cells);
-        }
-        return course::failed(d, 5, c.want.address);
+    match read {
+        Ok(descriptor) => page(c, patc, lines, cells, descriptor),
+        Err(e) => course::bus_error(c, e),
     }
-    course::failed(d, 3, moved.failing)
 }
 
 // After the page descriptor's update: only then is an entry loaded.
+#[tactic(auto, unfolding(crate::specs::Search::update_of, course::specs::Course::listed_of))]
 pub fn take_update(
     c: Course,
     patc: &mut [u32; 112],
     lines: &mut [u32; 1280],
     cells: &mut [u32; 4096],
-    moved: Moved,
+    moved: Result<(), BusError>,
 ) -> Flight
-    requires { c.place < 1024 }
-    ensures { (flown result patc.new lines.new cells.new ≡ update_of c patc.old lines.old cells.old moved) × (result.course.place < 1024) }
+    ensures { flown result patc.new lines.new cells.new ≡ update_of c patc.old lines.old cells.old (moved_in 1 moved) }
 {
-    let d = course::listed(c, moved);
-    if moved.ok {
-        return loaded(d, patc, lines, cells);
+    match moved {
+        Ok(()) => loaded(course::listed(c, 1), patc, lines, cells),
+        Err(e) => course::bus_error(c, e),
     }
-    course::failed(d, 3, moved.failing)
 }

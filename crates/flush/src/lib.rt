@@ -1,32 +1,34 @@
 // The flush commands: lines are copied back, made invalid, or both, by place.
 #![tactic(auto)]
 
-ghost use Rattle.std.specs.Prelude.{◌≡◌, ◌<◌, ◌≤◌, length};
-ghost use Rattle.sweep.specs.Sweep.{swept, copied_of, line_of, sweep_of};
+ghost use Rattle.std.specs.Prelude.{◌≡◌, ◌≤◌, IfOk};
+ghost use Rattle.sweep.specs.Sweep.{line_in, flushed_in, swept, copied_of, line_of, sweep_of};
 
-use sweep::{Flushed, Kind, Range};
+use lines::LineState;
+use memory::BusError;
+use state::Place;
+use sweep::{Kind, Range, Stopped};
 
-// Copies a line back and gives it its next state; the first bus error stops, that line as it was.
+// Copies a line back and gives it its next state; on a bus error it stays as it was.
+#[tactic(auto, unfolding(sweep::specs::Sweep::copied_of))]
 fn copy_back(
     kind: Kind,
     lines: &mut [u32; 1280],
     cells: &[u32; 4096],
     ram: &mut [u32],
-    p: usize,
+    p: Place,
     address: u32,
-) -> Flushed
-    requires { p < 1024 }
-    ensures { (swept result lines.new ram.new ≡ copied_of kind lines.old cells.now ram.old p address) × (result.words ≤ 4) }
+) -> Result<u32, BusError>
+    ensures line { swept (line_in result) lines.new ram.new ≡ copied_of kind lines.old cells.now ram.old p address }
+    ensures words { IfOk result (λ words. words ≤ 4) }
 {
-    let moved = memory::write_line(ram, address, cells::line_words(cells, p));
-    if moved.ok {
-        lines::set_state(lines, p, sweep::after(kind));
-        return sweep::well(4);
-    }
-    sweep::stopped(0, moved.failing)
+    memory::write_line(ram, address, cells::line_words(cells, p))?;
+    lines::set_state(lines, p, sweep::after(kind));
+    Ok(4)
 }
 
-// The command's work at one place.
+// The command's work at one place, and the words moved.
+#[tactic(auto, unfolding(sweep::specs::Sweep::line_of))]
 fn flush_line(
     kind: Kind,
     range: Range,
@@ -34,27 +36,26 @@ fn flush_line(
     lines: &mut [u32; 1280],
     cells: &[u32; 4096],
     ram: &mut [u32],
-    p: usize,
-) -> Flushed
-    requires { p < 1024 }
-    ensures { (swept result lines.new ram.new ≡ line_of kind range sar cells.now p lines.old ram.old) × (result.words ≤ 4) }
+    p: Place,
+) -> Result<u32, BusError>
+    ensures line { swept (line_in result) lines.new ram.new ≡ line_of kind range sar cells.now p lines.old ram.old }
+    ensures words { IfOk result (λ words. words ≤ 4) }
 {
     let word = lines::tag_word(lines, p);
     let address = lines::line_address(p, word);
-    if lines::is_valid(word) & sweep::covers(range, sar, address) {
-        if sweep::copies(kind) & lines::is_modified(word) {
-            return copy_back(kind, lines, cells, ram, p, address);
-        }
-        if sweep::drops(kind) {
-            lines::set_state(lines, p, 3);
-            return sweep::well(0);
-        }
-        return sweep::well(0);
+    if !lines::is_valid(word) | !sweep::covers(range, sar, address) {
+        return Ok(0);
     }
-    sweep::well(0)
+    if sweep::copies(kind) & lines::is_modified(word) {
+        return copy_back(kind, lines, cells, ram, p, address);
+    }
+    if sweep::drops(kind) {
+        lines::set_state(lines, p, LineState::Invalid);
+    }
+    Ok(0)
 }
 
-// A flush command: every valid line in the named range, by set, then number.
+// A flush command: every valid line in the named range, by set, then number. The first bus error stops.
 pub fn flush(
     kind: Kind,
     range: Range,
@@ -62,18 +63,20 @@ pub fn flush(
     lines: &mut [u32; 1280],
     cells: &[u32; 4096],
     ram: &mut [u32],
-) -> Flushed
-    ensures { swept result lines.new ram.new ≡ sweep_of kind range sar cells.now lines.old ram.old 1024 }
+) -> Result<u32, Stopped>
+    ensures { swept (flushed_in result) lines.new ram.new ≡ sweep_of kind range sar cells.now lines.old ram.old 1024 }
 {
     let mut words: u32 = 0;
-    let mut p: usize = 0;
-    while p < 1024 {
-        let r = flush_line(kind, range, sar, lines, cells, ram, p);
-        if !r.ok {
-            return sweep::stopped(words + r.words, r.failing);
+    for p in 0..1024 {
+        match flush_line(kind, range, sar, lines, cells, ram, Place::at(p)) {
+            Ok(more) => words += more,
+            Err(e) => {
+                return Err(Stopped {
+                    words,
+                    failing: e.address,
+                });
+            }
         }
-        words += r.words;
-        p += 1;
     }
-    sweep::well(words)
+    Ok(words)
 }

@@ -4,7 +4,7 @@ use Rattle.words.specs.Words.{pick}
 use Rattle.memory.specs.Memory.{ram_line, put_of, line_fits}
 use Rattle.lines.specs.Lines.{valid, modified, tag_at, tag_word, line_address, with_state}
 use Rattle.cells.specs.Cells.{line_words}
-use Rattle.sweep.specs.declared.Flushed.{Flushed}
+use Rattle.sweep.specs.Sweep.{Flushed}
 use Rattle.sweep.specs.declared.Kind.{Kind}
 use Rattle.sweep.specs.declared.Range.{Range}
 use Rattle.sweep.specs.declared.Range.TheVariants.{All}

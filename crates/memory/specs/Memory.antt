@@ -60,6 +60,9 @@ part_of ram rom address =
 unfoldable pub shown_of : List ℕ → ℕ → Moved
 shown_of part address = pick (ltb (length part) 4) (failed_of (address / 16 * 16)) (moved_of 4)
 
+abbrev pub word_read : ℕ → Read
+word_read word = record { moved = moved_of 1; word = word }
+
 abbrev pub unread_of : ℕ → Read
 unread_of address = record { moved = failed_of address; word = 0 }
 
@@ -78,7 +81,7 @@ moved_in n (Ok x) = moved_of n
 moved_in n (Err e) = failed_of e.address
 
 abbrev pub read_in : Result ℕ BusError → Read
-read_in (Ok word) = record { moved = moved_of 1; word = word }
+read_in (Ok word) = word_read word
 read_in (Err e) = unread_of e.address
 
 abbrev pub part_in : Result (Bor (List ℕ)) BusError → List ℕ

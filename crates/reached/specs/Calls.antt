@@ -14,7 +14,7 @@ use Rattle.lines.specs.Laws.{Looked, hit_is}
 use Rattle.state.specs.declared.Registers.{Registers}
 use Rattle.state.specs.declared.FaultPair.{FaultPair}
 use Rattle.state.specs.Own.{own_scr, own_scr_lem}
-use Rattle.sweep.specs.declared.Flushed.{Flushed}
+use Rattle.sweep.specs.Sweep.{Flushed}
 use Rattle.sweep.specs.declared.Kind.{Kind}
 use Rattle.sweep.specs.declared.Range.{Range}
 use Rattle.snoop.specs.declared.Snooped.{Snooped}

@@ -31,7 +31,15 @@ impl Place {
         }
     }
 
-    // The place as a number.
+    // The place of a number.
+    pub fn at(index: usize) -> Place
+        requires { index < 1024 }
+        ensures { result ≡ index }
+    {
+        Place { index }
+    }
+
+    // .. and its number.
     pub fn index(self) -> usize
         ensures { (result ≡ self) × (result < 1024) }
     {

@@ -7,7 +7,7 @@ use native.Mathlib.Omega.{arith}
 use Rattle.std.proofs.Math.Nat.{add-zero}
 use Rattle.sweep.specs.declared.Kind.{Kind}
 use Rattle.sweep.specs.declared.Range.{Range}
-use Rattle.sweep.specs.declared.Flushed.{Flushed}
+use Rattle.sweep.specs.Sweep.{Flushed}
 use Rattle.sweep.specs.declared.Kind.TheVariants.{Invalidate, CopyBack, Both}
 use Rattle.sweep.specs.Sweep.{after_of, Sweep, swept, well_of, stopped_of, line_of, sweep_of}
 

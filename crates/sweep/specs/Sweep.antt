@@ -1,10 +1,11 @@
 -- The flush commands: 14-17 invalidate, 18-1B copy back, 1C-1F both; a line, a page, a segment or all, by the physical SAR.
-use Rattle.std.specs.Prelude.{ℕ, zero, suc, ◌+◌, Bool, true, false, ◌&&◌, List, eqb}
+use Rattle.std.specs.Prelude.{ℕ, zero, suc, ◌+◌, Bool, true, false, ◌&&◌, List, eqb, Result, Ok, Err}
 use Rattle.words.specs.Words.{pick, bits_of}
 use Rattle.memory.specs.Memory.{Wrote, write_line_of}
 use Rattle.lines.specs.Lines.{valid, modified, tag_word, line_address, marked}
 use Rattle.cells.specs.Cells.{line_words}
-use Rattle.sweep.specs.declared.Flushed.{Flushed}
+use Rattle.memory.specs.declared.BusError.{BusError}
+use Rattle.sweep.specs.declared.Stopped.{Stopped}
 use Rattle.sweep.specs.declared.Kind.{Kind}
 use Rattle.sweep.specs.declared.Kind.TheVariants.{Invalidate, CopyBack, Both}
 use Rattle.sweep.specs.declared.Range.{Range}
@@ -31,11 +32,26 @@ drops_of Both = true
 abbrev pub after_of : Kind → ℕ
 after_of k = pick (drops_of k) 3 0
 
+-- how a flush ended: did every copyback go well, the words moved, and else the line's address
+pub record Flushed : Type 0 where
+  pub ok : Bool
+  pub words : ℕ
+  pub failing : ℕ
+
 abbrev pub well_of : ℕ → Flushed
 well_of words = record { ok = true; words = words; failing = 0 }
 
 abbrev pub stopped_of : ℕ → ℕ → Flushed
 stopped_of words failing = record { ok = false; words = words; failing = failing }
+
+-- the same of what the code answers: for one line, and for a whole command
+abbrev pub line_in : Result ℕ BusError → Flushed
+line_in (Ok words) = well_of words
+line_in (Err e) = stopped_of 0 e.address
+
+abbrev pub flushed_in : Result ℕ Stopped → Flushed
+flushed_in (Ok words) = well_of words
+flushed_in (Err e) = stopped_of e.words e.failing
 
 -- how far a flush has come, the directory and RAM
 pub record Sweep : Type 0 where

@@ -1,8 +1,11 @@
 // Which lines a flush command covers, and what becomes of each.
 #![tactic(auto)]
 
-ghost use Rattle.std.specs.Prelude.{◌≡◌, ◌<◌};
-ghost use Rattle.sweep.specs.Sweep.{covers_of, copies_of, drops_of, after_of, well_of, stopped_of};
+ghost use Rattle.std.specs.Prelude.{◌≡◌};
+ghost use Rattle.lines.specs.Lines.{vv_of};
+ghost use Rattle.sweep.specs.Sweep.{covers_of, copies_of, drops_of, after_of};
+
+use lines::LineState;
 
 // 14-17 invalidate, 18-1B copy back, 1C-1F both.
 #[derive(Clone, Copy)]
@@ -21,32 +24,11 @@ pub enum Range {
     All,
 }
 
-// How a flush ended: did every copyback go well, the words moved, and else the line's address.
+// A flush that a bus error stopped: the words moved before it, and the line's address.
 #[derive(Clone, Copy)]
-pub struct Flushed {
-    pub ok: bool,
+pub struct Stopped {
     pub words: u32,
     pub failing: u32,
-}
-
-pub fn well(words: u32) -> Flushed
-    ensures { (result ≡ well_of words) × (result.words ≡ words) }
-{
-    Flushed {
-        ok: true,
-        words,
-        failing: 0,
-    }
-}
-
-pub fn stopped(words: u32, failing: u32) -> Flushed
-    ensures { (result ≡ stopped_of words failing) × (result.words ≡ words) }
-{
-    Flushed {
-        ok: false,
-        words,
-        failing,
-    }
 }
 
 // Is the line at this address in the range that SAR names?
@@ -64,29 +46,22 @@ pub fn covers(range: Range, sar: u32, address: u32) -> bool
 pub fn copies(kind: Kind) -> bool
     ensures { result ≡ copies_of kind }
 {
-    match kind {
-        Kind::Invalidate => false,
-        Kind::CopyBack => true,
-        Kind::Both => true,
-    }
+    matches!(kind, Kind::CopyBack | Kind::Both)
 }
 
 pub fn drops(kind: Kind) -> bool
     ensures { result ≡ drops_of kind }
 {
-    match kind {
-        Kind::Invalidate => true,
-        Kind::CopyBack => false,
-        Kind::Both => true,
-    }
+    matches!(kind, Kind::Invalidate | Kind::Both)
 }
 
-// The state of a copied line: 0, or invalid where the command drops it too.
-pub fn after(kind: Kind) -> u32
-    ensures { (result ≡ after_of kind) × (result < 4) }
+// The state of a copied line: exclusive, or invalid where the command drops it too.
+pub fn after(kind: Kind) -> LineState
+    ensures { vv_of result ≡ after_of kind }
 {
     if drops(kind) {
-        return 3;
+        LineState::Invalid
+    } else {
+        LineState::Exclusive
     }
-    0
 }

@@ -1,7 +1,7 @@
 // What the cache wants moved, on RAM and ROM: a line copied back or filled, a word written through, a single word.
 #![tactic(auto)]
 
-ghost use Rattle.std.specs.Prelude.{◌≡◌, ◌<◌, length};
+ghost use Rattle.std.specs.Prelude.{◌≡◌};
 ghost use Rattle.memory.specs.Memory.{part_of, shown_of, write_word_of, write_line_of};
 ghost use Rattle.cells.specs.Cells.{line_words};
 ghost use Rattle.course.specs.Next.{lined, cached};
@@ -11,8 +11,8 @@ ghost use Rattle.transfers.specs.Transfers.{flown_to, single_by, carried, transf
 use course::{Course, Flight, Stage};
 
 fn drop(c: Course, lines: &mut [u32; 1280], cells: &[u32; 4096], ram: &mut [u32]) -> Flight
-    requires { c.place < 1024 }
-    ensures { (lined result lines.new ≡ drop_of c lines.old (write_line_of ram.old c.want.address (line_words cells.now c.place)).moved) × (ram.new ≡ (write_line_of ram.old c.want.address (line_words cells.now c.place)).ram) × (result.course.place < 1024) }
+    ensures flight { lined result lines.new ≡ drop_of c lines.old (write_line_of ram.old c.want.address (line_words cells.now c.place)).moved }
+    ensures ram { ram.new ≡ (write_line_of ram.old c.want.address (line_words cells.now c.place)).ram }
 {
     let part = cells::line_words(cells, c.place);
     let moved = memory::write_line(ram, c.want.address, part);
@@ -20,8 +20,8 @@ fn drop(c: Course, lines: &mut [u32; 1280], cells: &[u32; 4096], ram: &mut [u32]
 }
 
 fn back(c: Course, cells: &[u32; 4096], ram: &mut [u32]) -> Flight
-    requires { c.place < 1024 }
-    ensures { (result ≡ back_of c (write_line_of ram.old c.want.address (line_words cells.now c.place)).moved) × (ram.new ≡ (write_line_of ram.old c.want.address (line_words cells.now c.place)).ram) × (result.course.place < 1024) }
+    ensures flight { result ≡ back_of c (write_line_of ram.old c.want.address (line_words cells.now c.place)).moved }
+    ensures ram { ram.new ≡ (write_line_of ram.old c.want.address (line_words cells.now c.place)).ram }
 {
     let part = cells::line_words(cells, c.place);
     let moved = memory::write_line(ram, c.want.address, part);
@@ -35,38 +35,36 @@ fn fill<'a>(
     ram: &'a [u32],
     rom: &'a [u32],
 ) -> Flight
-    requires { c.place < 1024 }
-    ensures { (cached result lines.new cells.new ≡ fill_of c lines.old cells.old (part_of ram.now rom.now c.want.address) (shown_of (part_of ram.now rom.now c.want.address) c.want.address)) × (result.course.place < 1024) }
+    ensures { cached result lines.new cells.new ≡ fill_of c lines.old cells.old (part_of ram.now rom.now c.want.address) (shown_of (part_of ram.now rom.now c.want.address) c.want.address) }
 {
-    let part = memory::line(ram, rom, c.want.address);
-    let moved = memory::shown(part, c.want.address);
-    after::take_fill(c, lines, cells, part, moved)
+    let shown = memory::line(ram, rom, c.want.address);
+    after::take_fill(c, lines, cells, shown)
 }
 
 fn store(c: Course, lines: &mut [u32; 1280], cells: &mut [u32; 4096], ram: &mut [u32]) -> Flight
-    requires { c.place < 1024 }
-    ensures { (cached result lines.new cells.new ≡ store_of c lines.old cells.old (write_word_of ram.old c.want.address c.access.enables c.access.word).moved) × (ram.new ≡ (write_word_of ram.old c.want.address c.access.enables c.access.word).ram) × (result.course.place < 1024) }
+    ensures flight { cached result lines.new cells.new ≡ store_of c lines.old cells.old (write_word_of ram.old c.want.address c.access.enables c.access.word).moved }
+    ensures ram { ram.new ≡ (write_word_of ram.old c.want.address c.access.enables c.access.word).ram }
 {
     let a = c.access;
     let moved = memory::write_word(ram, c.want.address, a.enables, a.word);
     after::take_store(c, lines, cells, moved)
 }
 
+#[tactic(auto, unfolding(crate::specs::Transfers::single_by, after::specs::After::word_of))]
 fn single(c: Course, ram: &mut [u32], rom: &[u32]) -> Flight
-    requires { c.place < 1024 }
-    ensures { (flown_to result ram.new ≡ single_by c ram.old rom.now) × (result.course.place < 1024) }
+    ensures { flown_to result ram.new ≡ single_by c ram.old rom.now }
 {
     let a = c.access;
-    if a.write {
-        let moved = memory::write_word(ram, c.want.address, a.enables, a.word);
-        return after::take_single(c, moved, 0);
-    }
-    let read = memory::read_word(ram, rom, c.want.address);
-    let moved = read.moved;
-    after::take_single(c, moved, read.word)
+    let read = if a.write {
+        memory::write_word(ram, c.want.address, a.enables, a.word).map(|()| 0)
+    } else {
+        memory::read_word(ram, rom, c.want.address)
+    };
+    after::take_single(c, read)
 }
 
 // The transaction that the cache wants; one of a search is left alone.
+#[tactic(auto, unfolding(crate::specs::Transfers::transfer_at))]
 pub fn transfer(
     f: Flight,
     lines: &mut [u32; 1280],
@@ -74,12 +72,10 @@ pub fn transfer(
     ram: &mut [u32],
     rom: &[u32],
 ) -> Flight
-    requires { f.course.place < 1024 }
-    ensures { (carried result lines.new cells.new ram.new ≡ transfer_of f lines.old cells.old ram.old rom.now) × (result.course.place < 1024) }
+    ensures { carried result lines.new cells.new ram.new ≡ transfer_of f lines.old cells.old ram.old rom.now }
 {
     let c = f.course;
-    let stage = f.stage;
-    match stage {
+    match f.stage {
         Stage::Drop => drop(c, lines, cells, ram),
         Stage::Back => back(c, cells, ram),
         Stage::Fill => fill(c, lines, cells, ram, rom),
