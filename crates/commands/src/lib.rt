@@ -63,13 +63,16 @@ fn flush(
 ) -> u32
     ensures { flush_ran (ran_of u.new result) lines.new ram.new ≡ flush_of u.old kind range lines.old cells.now ram.old }
 {
-    let flushed = flush::flush(kind, range, u.sar, lines, cells, ram);
-    if flushed.ok {
-        u.ssr = probe::kept(u.ssr);
-    } else {
-        probe::end(u, probe::BUS_ERROR, flushed.failing);
+    match flush::flush(kind, range, u.sar, lines, cells, ram) {
+        Ok(words) => {
+            u.ssr = probe::kept(u.ssr);
+            words
+        }
+        Err(e) => {
+            probe::end(u, probe::BUS_ERROR, e.failing);
+            e.words
+        }
     }
-    flushed.words
 }
 
 // Runs the command that stands in SCR; the words that it moved.
