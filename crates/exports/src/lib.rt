@@ -60,8 +60,7 @@ pub fn access(
     let Some(cells) = cells.as_mut_array() else {
         unreachable!();
     };
-    let hit = quick::look(unit, patc, lines, address, kind, enables);
-    if hit.place < 1024 {
+    if let Some(hit) = quick::look(unit, patc, lines, address, kind, enables) {
         quick::answer(lines, cells, hit, words::bit(kind, 6), enables, word, reply);
         return Called { pair, number };
     }

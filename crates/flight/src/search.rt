@@ -1,13 +1,15 @@
 // A table search, one descriptor at a time; and the entry that it loads or renews.
 ghost use Rattle.std.specs.Prelude.{◌≡◌};
 ghost use Rattle.memory.specs.Memory.{word_read, moved_in, read_in};
+ghost use Rattle.lookup.specs.Lookup.{finished};
 ghost use Rattle.flight.specs.Search.{flown, start_of, segment_of, updating_of, loaded_of, walk_of, page_of, update_of};
 
 use course::{Course, Flight, Stage};
 use lookup::Walked;
 use memory::BusError;
 use pages::Translation;
-use state::Outcome;
+use patc::Slot;
+use state::{Fault, Outcome};
 
 // Wants the segment descriptor; a hit that found M clear names its entry.
 #[tactic(auto, unfolding(crate::specs::Search::start_of, course::specs::Course::with_entry, course::specs::Course::searched_of))]
@@ -72,30 +74,33 @@ fn loaded(
 {
     let page = pages::tables::page_word(c.access.address, c.access.supervisor);
     let frame = pages::tables::frame_word(c.t);
-    let n = c.entry;
-    if n < 56 {
-        patc::put(patc, n, page, frame);
-        return cache::enter(c, lines, cells);
+    match Slot::new(c.entry) {
+        Some(slot) => {
+            patc::put(patc, slot, page, frame);
+            cache::enter(c, lines, cells)
+        }
+        None => {
+            let pointer = patc::load(patc, c.pointer, page, frame);
+            cache::enter(Course { pointer, ..c }, lines, cells)
+        }
     }
-    let pointer = patc::load(patc, c.pointer, page, frame);
-    cache::enter(Course { pointer, ..c }, lines, cells)
 }
 
 // What a search does with both descriptors.
 #[tactic(auto, unfolding(crate::specs::Search::walk_of, course::specs::Course::with_translation))]
 fn walk(
     c: Course,
-    walked: Walked,
+    walked: Result<Walked, Fault>,
     patc: &mut [u32; 112],
     lines: &mut [u32; 1280],
     cells: &mut [u32; 4096],
 ) -> Flight
-    ensures { flown result patc.new lines.new cells.new ≡ walk_of c walked patc.old lines.old cells.old }
+    ensures { flown result patc.new lines.new cells.new ≡ walk_of c (finished walked) patc.old lines.old cells.old }
 {
     match walked {
-        Walked::Violation(fault) => course::ended(c, Outcome::Failed(fault)),
-        Walked::Update(t, descriptor) => updating(c, t, descriptor),
-        Walked::Complete(t) => loaded(Course { t, ..c }, patc, lines, cells),
+        Ok(Walked::Update(t, descriptor)) => updating(c, t, descriptor),
+        Ok(Walked::Complete(t)) => loaded(Course { t, ..c }, patc, lines, cells),
+        Err(fault) => course::ended(c, Outcome::Failed(fault)),
     }
 }
 

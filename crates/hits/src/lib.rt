@@ -1,54 +1,47 @@
 // An access that only touches a line of the cache: its way there is found without a flight, and it is answered where it stands.
 #![tactic(auto)]
 
-ghost use Rattle.std.specs.Prelude.{◌≡◌, ◌<◌, length};
+ghost use Rattle.std.specs.Prelude.{◌≡◌};
 ghost use Rattle.words.specs.Words.{keep_of};
 ghost use Rattle.lines.specs.Lines.{used_at, marked};
 ghost use Rattle.cells.specs.Cells.{word_at, merged_at};
-ghost use Rattle.hits.specs.Hits.{way_of, page_way_of, no_way, found_of, kept_of, no_hit, hit_by, look_of};
+ghost use Rattle.hits.specs.Hits.{clear_way, way_by, way_of, found_of, kept_of, hit_if, hit_by, look_of};
 
+use lines::LineState;
 use pages::Translation;
+use state::Place;
 
-// The way of an access to the cache: its physical address, whether it may touch a line alone, and whether its page is global.
+// The way of an access to the cache, where it may touch a line alone: its physical address, and whether its page is global.
 #[derive(Clone, Copy)]
-pub struct Way {
-    pub address: u32,
-    pub clear: bool,
-    pub g: bool,
+struct Way {
+    address: u32,
+    g: bool,
 }
 
-// Where an access hits: the place of its line, 1024 for none, and the physical address.
+// Where an access hits: the place of its line, and the physical address.
 #[derive(Clone, Copy)]
 pub struct Hit {
-    pub place: usize,
+    pub place: Place,
     pub address: u32,
 }
 
-// Clear is the way of an access that is neither inhibited nor barred, nor a write through the cache.
-fn way_of(t: Translation, supervisor: bool, write: bool) -> Way
-    ensures { result ≡ way_of t supervisor write }
+// The way is clear of an access that is neither inhibited nor barred, nor a write through the cache.
+#[tactic(auto, unfolding(crate::specs::Hits::way_of))]
+fn way_of(t: Translation, supervisor: bool, write: bool) -> Option<Way>
+    ensures { result ≡ clear_way (way_of t supervisor write) }
 {
-    let barred = pages::protection(t, supervisor, write);
-    Way {
-        address: t.address,
-        clear: !(t.ci | (write & t.wt)) & (barred == 0),
-        g: t.g,
+    let permitted = pages::protection(t, supervisor, write).is_ok();
+    let clear = !(t.ci | (write & t.wt)) & permitted;
+    if clear {
+        return Some(Way {
+            address: t.address,
+            g: t.g,
+        });
     }
+    None
 }
 
-// .. by an entry: nor a write that finds M clear.
-fn page_way(t: Translation, supervisor: bool, write: bool) -> Way
-    ensures { result ≡ page_way_of t supervisor write }
-{
-    let barred = pages::protection(t, supervisor, write);
-    Way {
-        address: t.address,
-        clear: !(t.ci | (write & t.wt)) & (barred == 0) & !(write & !t.m),
-        g: t.g,
-    }
-}
-
-// The way of an access that needs no search.
+// The way of an access that needs no search, as a write does that finds M clear.
 fn found(
     area: u32,
     ports: &[u32],
@@ -56,67 +49,47 @@ fn found(
     address: u32,
     supervisor: bool,
     write: bool,
-) -> Way
-    ensures { result ≡ found_of area ports.now patc.now address supervisor write }
+) -> Option<Way>
+    ensures { result ≡ clear_way (found_of area ports.now patc.now address supervisor write) }
 {
     if !words::bit(area, 0) {
         return way_of(pages::unmapped(area, address), supervisor, write);
     }
-    let port = pages::port(ports, address, supervisor);
-    if words::bit(port, 0) {
+    if let Some(port) = pages::port(ports, address, supervisor) {
         return way_of(pages::block(port, address), supervisor, write);
     }
-    let n = patc::entry(patc, address, supervisor);
-    if n < 56 {
-        return page_way(
-            pages::paged(patc::frame(patc, n), address),
-            supervisor,
-            write,
-        );
+    let slot = patc::entry(patc, address, supervisor)?;
+    let t = pages::paged(patc::frame(patc, slot), address);
+    if write & !t.m {
+        return None;
     }
-    Way {
-        address: 0,
-        clear: false,
-        g: false,
-    }
+    way_of(t, supervisor, write)
 }
 
-// Does a write to the line at a place touch the line only? Not where there is none, nor a shared one of a global page.
-fn kept(lines: &[u32; 1280], g: bool, place: usize) -> bool
+// Does a write to the line at a place touch the line only? Not to a shared one of a global page.
+#[tactic(auto, unfolding(crate::specs::Hits::kept_of))]
+fn kept(lines: &[u32; 1280], g: bool, place: Place) -> bool
     ensures { result ≡ kept_of lines.now g place }
 {
-    if place < 1024 {
-        let state = lines::state(lines::tag_word(lines, place));
-        return !(g & (state == 2));
-    }
-    false
-}
-
-fn none() -> Hit
-    ensures { result ≡ no_hit }
-{
-    Hit {
-        place: 1024,
-        address: 0,
-    }
+    let state = lines::state(lines::tag_word(lines, place));
+    !(g & (state == LineState::Shared))
 }
 
 // The line at the end of a way.
-fn line_of(lines: &[u32; 1280], way: Way, write: bool) -> Hit
-    ensures { result ≡ hit_by lines.now way write }
+#[tactic(auto, unfolding(crate::specs::Hits::hit_by, crate::specs::Hits::kept_of))]
+fn line_of(lines: &[u32; 1280], way: Way, write: bool) -> Option<Hit>
+    ensures { result ≡ hit_if (hit_by lines.now (way_by way) write) }
 {
-    if !way.clear {
-        return none();
-    }
     let address = way.address;
-    let place = lines::hit(lines, address);
+    let place = lines::hit(lines, address)?;
     if write & !kept(lines, way.g, place) {
-        return none();
+        return None;
     }
-    Hit { place, address }
+    Some(Hit { place, address })
 }
 
 // The line that an access touches alone, if there is one.
+#[tactic(auto, unfolding(crate::specs::Hits::look_of, crate::specs::Hits::hit_by))]
 pub fn look(
     lines: &[u32; 1280],
     area: u32,
@@ -125,16 +98,15 @@ pub fn look(
     address: u32,
     supervisor: bool,
     write: bool,
-) -> Hit
-    ensures { result ≡ look_of lines.now area ports.now patc.now address supervisor write }
+) -> Option<Hit>
+    ensures { result ≡ hit_if (look_of lines.now area ports.now patc.now address supervisor write) }
 {
-    let way = found(area, ports, patc, address, supervisor, write);
+    let way = found(area, ports, patc, address, supervisor, write)?;
     line_of(lines, way, write)
 }
 
 // The word that is hit, and the line is used.
 pub fn read(lines: &mut [u32; 1280], cells: &[u32; 4096], hit: Hit, enables: u32) -> u32
-    requires { hit.place < 1024 }
     ensures { (result ≡ keep_of enables (word_at cells.now hit.place hit.address)) × (lines.new ≡ used_at lines.old hit.place) }
 {
     let word = cells::word(cells, hit.place, hit.address);
@@ -144,10 +116,9 @@ pub fn read(lines: &mut [u32; 1280], cells: &[u32; 4096], hit: Hit, enables: u32
 
 // The word is written to the line that is hit, which is then modified and used.
 pub fn write(lines: &mut [u32; 1280], cells: &mut [u32; 4096], hit: Hit, enables: u32, word: u32)
-    requires { hit.place < 1024 }
     ensures { (lines.new ≡ used_at (marked lines.old hit.place 1) hit.place) × (cells.new ≡ merged_at cells.old hit.place hit.address enables word) }
 {
-    lines::set_state(lines, hit.place, 1);
+    lines::set_state(lines, hit.place, LineState::Modified);
     lines::note_use(lines, hit.place);
     cells::merge(cells, hit.place, hit.address, enables, word);
 }

@@ -1,7 +1,8 @@
 // An access that only touches a line of the cache, told from the words of a unit; and its reply.
 #![tactic(auto)]
 
-ghost use Rattle.std.specs.Prelude.{◌≡◌, ◌<◌, length};
+ghost use Rattle.std.specs.Prelude.{◌≡◌};
+ghost use Rattle.hits.specs.Hits.{hit_if};
 ghost use Rattle.quick.specs.Quick.{plain_access, area_at, quick_of, plain_reply, lines_after, cells_after, reply_after};
 
 use hits::Hit;
@@ -23,7 +24,8 @@ fn area(unit: &[u32; 16], supervisor: bool) -> u32
     unit[6]
 }
 
-// The line that it touches, at place 1024 where there is none.
+// The line that it touches, if there is one.
+#[tactic(auto, unfolding(crate::specs::Quick::quick_of))]
 pub fn look(
     unit: &[u32; 16],
     patc: &[u32; 112],
@@ -31,22 +33,18 @@ pub fn look(
     address: u32,
     kind: u32,
     enables: u32,
-) -> Hit
-    ensures { (result ≡ quick_of unit.now patc.now lines.now address kind enables) × (length unit.now ≡ 16) }
+) -> Option<Hit>
+    ensures { result ≡ hit_if (quick_of unit.now patc.now lines.now address kind enables) }
 {
-    let all: &[u32] = unit;
     if !plain(address, kind, enables) {
-        return Hit {
-            place: 1024,
-            address: 0,
-        };
+        return None;
     }
     let supervisor = words::bit(kind, 7);
     let write = words::bit(kind, 6);
     hits::look(
         lines,
         area(unit, supervisor),
-        &all[8..16],
+        &unit[8..],
         patc,
         address,
         supervisor,
@@ -55,12 +53,13 @@ pub fn look(
 }
 
 // A reply without a transaction: 1 and the word that was read, or 2 for one that was written.
+#[tactic(auto, unfolding(crate::specs::Quick::plain_reply))]
 fn put_reply(reply: &mut [u32; 24], case: u32, value: u32)
     ensures { reply.new ≡ plain_reply case value }
 {
-    *reply = [
-        case, value, 0, 0, 0, 0, 0, 0, 0, 0, 0, 0, 0, 0, 0, 0, 0, 0, 0, 0, 0, 0, 0, 0,
-    ];
+    *reply = [0; 24];
+    reply[0] = case;
+    reply[1] = value;
 }
 
 // The access is answered: the line is read or written, and used.
@@ -73,7 +72,6 @@ pub fn answer(
     word: u32,
     reply: &mut [u32; 24],
 )
-    requires { hit.place < 1024 }
     ensures { (lines.new ≡ lines_after write lines.old hit) × (cells.new ≡ cells_after write cells.old hit enables word) × (reply.new ≡ reply_after write cells.old hit enables) }
 {
     if write {

@@ -2,4 +2,4 @@ use Rattle.unit.specs.Mapped.{ended_mapped}
 use Rattle.unit.proofs.mapped.Goals as goal
 
 pub returns : goal.returns
-returns c = rw c.flown.ensures (ended_mapped _ _ _ _ _ _ _ _ _ _ _ _ _ _ _ _ (rw c.area-area.ensures at c.begin-f.ensures.0) c.run-f.ensures)
+returns c = rw c.flown.ensures (ended_mapped _ _ _ _ _ _ _ _ _ _ _ _ _ _ _ _ (rw c.area-area.ensures at c.begin-f.ensures) c.run-f.ensures)
