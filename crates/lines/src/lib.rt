@@ -115,7 +115,7 @@ pub fn victim(lines: &[u32; 1280], address: u32) -> usize
     if !is_valid(tag_word(lines, p + 3)) {
         return p + 3;
     }
-    let order = UseOrder::of(lines[code_at(p)]);
+    let order = UseOrder::from(lines[code_at(p)]);
     p + order.victim()
 }
 
@@ -160,6 +160,6 @@ pub fn note_use(lines: &mut [u32; 1280], p: usize)
     ensures { lines.new ≡ used_at lines.old p }
 {
     let at = code_at(p);
-    let next = UseOrder::of(lines[at]).used(p % 4);
+    let next = UseOrder::from(lines[at]).used(p % 4);
     lines[at] = next.code;
 }

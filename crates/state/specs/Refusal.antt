@@ -1,6 +1,7 @@
 -- The numbers of malformed calls, and what a call's result has of them.
 use Rattle.std.specs.Prelude.{ℕ, Result, Ok, Err, ◌≡◌, refl, eqb}
-use Rattle.std.proofs.Common.{sym, ap, ◌∙◌}
+use Rattle.std.proofs.Common.{sym, ap, ◌∙◌, arith}
+use Rattle.std.specs.Result.{IsErr, IsErrAnd}
 use Rattle.words.specs.Words.{pick}
 use Rattle.state.specs.declared.Refusal.{Refusal}
 use Rattle.state.specs.declared.Refusal.TheVariants.{RamLength, RomLength, CellsLength, Address, Enables, Offset, ImageLength, ImageHeads, ImageBits, ImageDoubles, OutputLength}
@@ -54,3 +55,22 @@ back OutputLength = refl
 -- a number names one refusal
 pub one_refusal : (a b : Refusal) → number_of a ≡ number_of b → a ≡ b
 one_refusal a b e = sym (back a) ∙ ap refusal_at e ∙ back b
+
+-- .. and none is 0
+pub some_number : (r : Refusal) → number_of r ≡ 0 → ⊥
+some_number RamLength e = omega (arith, e)
+some_number RomLength e = omega (arith, e)
+some_number CellsLength e = omega (arith, e)
+some_number Address e = omega (arith, e)
+some_number Enables e = omega (arith, e)
+some_number Offset e = omega (arith, e)
+some_number ImageLength e = omega (arith, e)
+some_number ImageHeads e = omega (arith, e)
+some_number ImageBits e = omega (arith, e)
+some_number ImageDoubles e = omega (arith, e)
+some_number OutputLength e = omega (arith, e)
+
+-- what `?` hands on is the refusal itself
+pub handed_on : {T : Type 0} (r : Result T Refusal) (e : Refusal) → IsErr r × IsErrAnd r (λ x. x ≡ e) → r ≡ Err e
+handed_on (Ok x) e h = absurd h.1
+handed_on (Err x) e h = ap Err h.1

@@ -4,4 +4,4 @@ use Rattle.lines.proofs.note_use.Goals as goal
 
 pub returns : goal.returns
 unfolding used_at
-returns c = rw (c.used-next.ensures, c.of.ensures, c.code_at-at.ensures.0, code_again)
+returns c = rw (c.used-next.ensures, c.from.ensures, c.code_at-at.ensures.0, code_again)

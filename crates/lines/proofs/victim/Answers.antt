@@ -21,4 +21,4 @@ returns-then-not-is_valid-4 c = (rw (← c.set_of-p.ensures.0, ← c.tag_word.en
 
 pub returns : goal.returns
 unfolding victim_of
-returns c = (rw (c.victim.ensures.0, c.of-order.ensures, c.code_at.ensures.0, code_again, ← c.set_of-p.ensures.0, ← c.tag_word.ensures, ← c.is_valid.ensures, c.if-not-is_valid.false, ← c.tag_word-2.ensures, ← c.is_valid-2.ensures, c.if-not-is_valid-2.false, ← c.tag_word-3.ensures, ← c.is_valid-3.ensures, c.if-not-is_valid-3.false, ← c.tag_word-4.ensures, ← c.is_valid-4.ensures, c.if-not-is_valid-4.false), search rules)
+returns c = (rw (c.victim.ensures.0, c.from-order.ensures, c.code_at.ensures.0, code_again, ← c.set_of-p.ensures.0, ← c.tag_word.ensures, ← c.is_valid.ensures, c.if-not-is_valid.false, ← c.tag_word-2.ensures, ← c.is_valid-2.ensures, c.if-not-is_valid-2.false, ← c.tag_word-3.ensures, ← c.is_valid-3.ensures, c.if-not-is_valid-3.false, ← c.tag_word-4.ensures, ← c.is_valid-4.ensures, c.if-not-is_valid-4.false), search rules)
