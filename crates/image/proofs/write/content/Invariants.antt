@@ -1,5 +1,5 @@
 -- The loop's invariant: what is left to store, stored, gives what is to be there at the end.
-use Prim.Native.Nat.{◌+◌, ◌*◌, ◌-◌, ◌≤◌}
+use Prim.Native.Nat.{◌+◌, ◌*◌, ◌≤◌}
 use mathlib.Core.Path.{◌≡◌}
 use lib.ListN.{length, drop}
 use lib.Seq.{sets}
