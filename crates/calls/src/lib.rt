@@ -30,10 +30,7 @@ pub fn access(
     let Some(cells) = cells.as_mut_array() else {
         unreachable!();
     };
-    let a = unit::access(*u, *pair, patc, lines, cells, ram, rom, access);
-    *u = a.registers;
-    *pair = a.pair;
-    Ok(a.answer)
+    Ok(unit::access(u, pair, patc, lines, cells, ram, rom, access))
 }
 
 // A snoop of another master's transaction: numbers 1, 3 and 4.
@@ -52,9 +49,7 @@ pub fn snoop(
     let Some(cells) = cells.as_array() else {
         unreachable!();
     };
-    let w = unit::snoop(*u, lines, cells, ram, address, g, im);
-    *u = w.registers;
-    Ok(w.answer)
+    Ok(unit::snoop(u, lines, cells, ram, address, g, im))
 }
 
 // A register read: number 6.
@@ -62,7 +57,7 @@ pub fn read_register(u: &Registers, pair: &FaultPair, offset: u32) -> Result<u32
     ensures { read_said result ≡ read_call u.now pair.now offset }
 {
     refusals::read(offset)?;
-    Ok(registers::read(*u, *pair, offset))
+    Ok(registers::read(u, pair, offset))
 }
 
 // A register write: numbers 1, 2, 3 and 6. It answers the words that its command moved.
@@ -83,8 +78,5 @@ pub fn write_register(
     let Some(cells) = cells.as_array() else {
         unreachable!();
     };
-    let s = control::write_register(*u, *pair, patc, lines, cells, ram, rom, offset, value);
-    *u = s.registers;
-    *pair = s.pair;
-    Ok(s.words)
+    Ok(control::write_register(u, pair, patc, lines, cells, ram, rom, offset, value))
 }

@@ -24,12 +24,11 @@ fn any_access(
 )
     ensures { access_out 0 unit.new pair.new patc.new lines.new cells.new ram.new reply.new ≡ access_to unit.old pair.old patc.old lines.old cells.old ram.old rom.now address kind enables word reply.old }
 {
-    let u = layout::registers(unit);
+    let mut u = layout::registers(unit);
     let access = layout::access(address, kind, enables, word);
-    let a = unit::access(u, *pair, patc, lines, cells, ram, rom, access);
-    *pair = a.pair;
-    layout::put_registers(unit, a.registers);
-    layout::put_answer(reply, a.answer);
+    let answer = unit::access(&mut u, pair, patc, lines, cells, ram, rom, access);
+    layout::put_registers(unit, u);
+    layout::put_answer(reply, answer);
 }
 
 // One access; one that only touches a line is answered at once.

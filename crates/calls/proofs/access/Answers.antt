@@ -14,4 +14,4 @@ unreachable-requires c = c.in_default.ensures.cases (access_cells _ _ _ _ _ (sym
 
 pub returns : goal.returns
 unfolding access_by
-returns c = rw (← c.in_ok-access.ensures, ← c.in-Some.ensures.cases.same, ← c.access-a.ensures)
+returns c = rw (← c.in_ok-access.ensures, ← c.in-Some.ensures.cases.same, ← c.access-2.ensures)

@@ -14,4 +14,4 @@ unreachable-requires c = c.in_default.ensures.cases (snoop_cells _ _ _ (sym c.in
 
 pub returns : goal.returns
 unfolding snoop_by
-returns c = rw (← c.in_ok-snoop.ensures, ← c.in-Some.ensures.cases.same, ← c.snoop-w.ensures)
+returns c = rw (← c.in_ok-snoop.ensures, ← c.in-Some.ensures.cases.same, ← c.snoop-2.ensures)

@@ -14,4 +14,4 @@ unreachable-requires c = c.in_default.ensures.cases (write_cells _ _ _ _ (sym c.
 
 pub returns : goal.returns
 unfolding write_by
-returns c = rw (← c.in_ok-write.ensures, ← c.in-Some.ensures.cases.same, ← c.write_register-s.ensures)
+returns c = rw (← c.in_ok-write.ensures, ← c.in-Some.ensures.cases.same, ← c.write_register.ensures)
