@@ -6,8 +6,7 @@ use Rattle.state.specs.declared.FaultPair.{FaultPair}
 use Rattle.state.specs.declared.Registers.{Registers}
 use Rattle.saved.specs.Chip.{Chip}
 use Rattle.saved.specs.Image.{Saved}
-use Rattle.calls.specs.declared.ReadReply.{ReadReply}
-use Rattle.calls.specs.Calls.{AccessDone, access_call, SnoopDone, snoop_call, read_call, WriteDone, write_call}
+use Rattle.calls.specs.Calls.{ReadReply, AccessDone, access_call, SnoopDone, snoop_call, read_call, WriteDone, write_call}
 use Rattle.starts.specs.Starts.{UnitDone, reset_call, restore_call, save_call}
 
 -- what is said by an equation is said of one thing

@@ -4,8 +4,7 @@ use Rattle.words.specs.Words.{bit_of}
 use Rattle.lent.specs.Lent.{unless}
 use Rattle.state.specs.declared.FaultPair.{FaultPair}
 use Rattle.unit.specs.Unit.{access_of}
-use Rattle.calls.specs.declared.ReadReply.{ReadReply}
-use Rattle.calls.specs.Calls.{AccessDone, access_taken, access_call, SnoopDone, snoop_call, read_call, WriteDone, write_call}
+use Rattle.calls.specs.Calls.{ReadReply, AccessDone, access_taken, access_call, SnoopDone, snoop_call, read_call, WriteDone, write_call}
 use Rattle.layout.specs.Layout.{registers_of, unit_of, access_as, reply_of, snooped_of}
 
 -- ---- an access

@@ -10,10 +10,7 @@ pub fn put_word(out: &mut [u8], at: usize, w: u32)
     requires { at + 4 ≤ length out.old }
     ensures { out.new ≡ sets out.old at (word_bytes w) }
 {
-    out[at] = words::byte(w, 3);
-    out[at + 1] = words::byte(w, 2);
-    out[at + 2] = words::byte(w, 1);
-    out[at + 3] = words::byte(w, 0);
+    out[at..at + 4].copy_from_slice(&w.to_be_bytes());
 }
 
 // The word whose first byte is at `at`.
@@ -29,10 +26,8 @@ pub fn get_words(src: &[u8], at: usize, out: &mut [u32])
     requires { at + length out.old * 4 ≤ length src.now }
     ensures { out.new ≡ words_at src.now at (length out.old) }
 {
-    let mut i: usize = 0;
-    while i < out.len() {
-        out[i] = word_at(src, at + i * 4);
-        i += 1;
+    for (i, word) in out.iter_mut().enumerate() {
+        *word = word_at(src, at + i * 4);
     }
 }
 
@@ -41,9 +36,8 @@ pub fn put_head(out: &mut [u8], at: usize, tag: u8, n: usize)
     requires { (at + 3 ≤ length out.old) × (n < 65536) }
     ensures { out.new ≡ sets out.old at (head_of tag n) }
 {
-    out[at] = tag;
-    out[at + 1] = (n / 256) as u8;
-    out[at + 2] = (n % 256) as u8;
+    let [upper, lower] = (n as u16).to_be_bytes();
+    out[at..at + 3].copy_from_slice(&[tag, upper, lower]);
 }
 
 // The length that the head at `at` gives its field's content.
@@ -51,7 +45,7 @@ pub fn count_at(src: &[u8], at: usize) -> usize
     requires { at + 3 ≤ length src.now }
     ensures { (result ≡ count_at src.now at) × (result < 65536) }
 {
-    (words::wide(src[at + 1]) * 256 + words::wide(src[at + 2])) as usize
+    u16::from_be_bytes([src[at + 1], src[at + 2]]) as usize
 }
 
 // Does the head of a field with this tag and length stand at `at`?

@@ -8,11 +8,7 @@ ghost use Rattle.fresh.specs.Fresh.{cleared_of, fresh_word, fresh_lines};
 pub fn clear(words: &mut [u32])
     ensures { words.new ≡ cleared_of words.old }
 {
-    let mut i: usize = 0;
-    while i < words.len() {
-        words[i] = 0;
-        i += 1;
-    }
+    words.fill(0);
 }
 
 // What stands at a place of the directory: an invalid line, or a use code.
@@ -26,9 +22,7 @@ fn word(i: usize) -> u32
 pub fn empty(lines: &mut [u32])
     ensures { lines.new ≡ fresh_lines lines.old }
 {
-    let mut i: usize = 0;
-    while i < lines.len() {
-        lines[i] = word(i);
-        i += 1;
+    for (i, line) in lines.iter_mut().enumerate() {
+        *line = word(i);
     }
 }

@@ -13,10 +13,8 @@ fn content(layout: Layout, src: &[u32], out: &mut [u8], at: usize)
     requires { at + length src.now * 4 ≤ length out.old }
     ensures { out.new ≡ sets out.old at (bytes_of (own_words layout src.now)) }
 {
-    let mut i: usize = 0;
-    while i < src.len() {
-        fields::put_word(out, at + i * 4, saved::own_word(layout, i, src[i]));
-        i += 1;
+    for (i, word) in src.iter().enumerate() {
+        fields::put_word(out, at + i * 4, saved::own_word(layout, i, *word));
     }
 }
 
@@ -30,8 +28,8 @@ pub fn field(tag: u8, layout: Layout, src: &[u32], out: &mut [u8], at: usize)
 }
 
 // The ten words of field 1, own bits only.
-pub fn register_words(u: Registers, pair: FaultPair) -> [u32; 10]
-    ensures { result ≡ register_words (own_registers u) (own_pair pair) }
+pub fn register_words(u: &Registers, pair: &FaultPair) -> [u32; 10]
+    ensures { result ≡ register_words (own_registers u.now) (own_pair pair.now) }
 {
     [
         own::idr(u.idr),

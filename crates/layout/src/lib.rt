@@ -77,7 +77,7 @@ fn row_of(t: Transaction) -> Row
     Row {
         bits: bits(t),
         address: t.address,
-        words: words::wide(t.words),
+        words: u32::from(t.words),
     }
 }
 
@@ -101,9 +101,9 @@ pub fn put_answer(reply: &mut [u32; 24], a: Answer)
     let t4 = row_of(list[4]);
     let t5 = row_of(list[5]);
     *reply = [
-        state::case_number(o),
-        state::value(o),
-        state::place(o),
+        o.number(),
+        o.value(),
+        o.place(),
         a.words,
         listed(a.count),
         t0.bits,

@@ -144,7 +144,7 @@ pub fn victim(lines: &[u32; 1280], address: u32) -> Place
     if let Some(p) = lowest(set, free) {
         return p;
     }
-    let order = UseOrder::of(lines[code_at(Place::of(set, 0))]);
+    let order = UseOrder::from(lines[code_at(Place::of(set, 0))]);
     Place::of(set, order.victim())
 }
 
@@ -194,6 +194,6 @@ pub fn note_use(lines: &mut [u32; 1280], p: Place)
     ensures { lines.new ≡ used_at lines.old p }
 {
     let at = code_at(p);
-    let next = UseOrder::of(lines[at]).used(p.number());
+    let next = UseOrder::from(lines[at]).used(p.number());
     lines[at] = next.code;
 }

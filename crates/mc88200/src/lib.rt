@@ -2,11 +2,22 @@
 #![tactic(auto)]
 
 ghost use Rattle.std.specs.Prelude.{◌≡◌};
+ghost use Rattle.state.specs.Refusal.{number_in};
 ghost use Rattle.saved.specs.Image.{saved};
 ghost use Rattle.restarts.specs.Restarts.{unit_out, reset_export, restore_export, save_export};
 ghost use Rattle.exports.specs.Exports.{access_out, access_export, snoop_out, snoop_export, read_out, read_export, write_out, write_export};
 
-use state::FaultPair;
+use state::{FaultPair, Refusal};
+
+// What C is answered: 0, or the number of a refusal.
+fn answer(taken: Result<(), Refusal>) -> u32
+    ensures { result ≡ number_in taken }
+{
+    match taken {
+        Ok(()) => 0,
+        Err(refusal) => u32::from(refusal),
+    }
+}
 
 pub fn mc88200_reset(
     unit: &mut [u32; 16],
@@ -18,9 +29,7 @@ pub fn mc88200_reset(
 ) -> u32
     ensures { unit_out result unit.new fault.new patc.new lines.new cells.new ≡ reset_export unit.old fault.old patc.old lines.old cells.old number }
 {
-    let r = restarts::reset(unit, *fault, patc, lines, cells, number);
-    lent::store(fault, r.pair.status, r.pair.address);
-    r.number
+    answer(restarts::reset(unit, fault, patc, lines, cells, number))
 }
 
 pub fn mc88200_access(
@@ -39,11 +48,9 @@ pub fn mc88200_access(
 ) -> u32
     ensures { access_out result unit.new fault.new patc.new lines.new cells.new ram.new reply.new ≡ access_export unit.old fault.old patc.old lines.old cells.old ram.old rom.now address kind enables word reply.old }
 {
-    let r = exports::access(
-        unit, *fault, patc, lines, cells, ram, rom, address, kind, enables, word, reply,
-    );
-    lent::store(fault, r.pair.status, r.pair.address);
-    r.number
+    answer(exports::access(
+        unit, fault, patc, lines, cells, ram, rom, address, kind, enables, word, reply,
+    ))
 }
 
 pub fn mc88200_snoop(
@@ -57,7 +64,7 @@ pub fn mc88200_snoop(
 ) -> u32
     ensures { snoop_out result unit.new lines.new ram.new reply.new ≡ snoop_export unit.old lines.old cells.now ram.old address kind reply.old }
 {
-    exports::snoop(unit, lines, cells, ram, address, kind, reply)
+    answer(exports::snoop(unit, lines, cells, ram, address, kind, reply))
 }
 
 pub fn mc88200_read_register(
@@ -68,8 +75,7 @@ pub fn mc88200_read_register(
 ) -> u32
     ensures { read_out result reply.new ≡ read_export unit.now fault.now offset reply.old }
 {
-    let r = exports::read_register(unit, *fault, offset, reply);
-    r.number
+    answer(exports::read_register(unit, fault, offset, reply))
 }
 
 pub fn mc88200_write_register(
@@ -86,11 +92,9 @@ pub fn mc88200_write_register(
 ) -> u32
     ensures { write_out result unit.new fault.new patc.new lines.new ram.new reply.new ≡ write_export unit.old fault.old patc.old lines.old cells.now ram.old rom.now offset value reply.old }
 {
-    let r = exports::write_register(
-        unit, *fault, patc, lines, cells, ram, rom, offset, value, reply,
-    );
-    lent::store(fault, r.pair.status, r.pair.address);
-    r.number
+    answer(exports::write_register(
+        unit, fault, patc, lines, cells, ram, rom, offset, value, reply,
+    ))
 }
 
 pub fn mc88200_save(
@@ -103,8 +107,7 @@ pub fn mc88200_save(
 ) -> u32
     ensures { saved result out.new ≡ save_export unit.now fault.now patc.now lines.now cells.now out.old }
 {
-    let r = restarts::save(unit, *fault, patc, lines, cells, out);
-    r.number
+    answer(restarts::save(unit, fault, patc, lines, cells, out))
 }
 
 pub fn mc88200_restore(
@@ -117,7 +120,5 @@ pub fn mc88200_restore(
 ) -> u32
     ensures { unit_out result unit.new fault.new patc.new lines.new cells.new ≡ restore_export unit.old fault.old patc.old lines.old cells.old image.now }
 {
-    let r = restarts::restore(unit, *fault, patc, lines, cells, image);
-    lent::store(fault, r.pair.status, r.pair.address);
-    r.number
+    answer(restarts::restore(unit, fault, patc, lines, cells, image))
 }

@@ -13,16 +13,18 @@ pub struct UseOrder {
     pub code: u32,
 }
 
-impl UseOrder {
-    // The use code of a word: its bits 5-0.
-    pub fn of(word: u32) -> UseOrder
-        ensures { result ≡ ordered (bits_of word 5 0) }
-    {
+// The use code of a word: its bits 5-0.
+impl From<u32> for UseOrder {
+    ghost from_gives = { λ word order. order ≡ ordered (bits_of word 5 0) };
+
+    fn from(word: u32) -> UseOrder {
         UseOrder {
             code: words::bits(word, 5, 0),
         }
     }
+}
 
+impl UseOrder {
     // The order once `line` is used.
     pub fn used(self, line: usize) -> UseOrder
         requires { line < 4 }
@@ -30,7 +32,7 @@ impl UseOrder {
     {
         let code = words::bits(self.code, 5, 0) as usize;
         UseOrder {
-            code: words::wide(tables::next(code * 4 + line)),
+            code: u32::from(tables::next(code * 4 + line)),
         }
     }
 
@@ -39,7 +41,7 @@ impl UseOrder {
         ensures { (result ≡ earliest_of (bits_of self.code 5 0)) × (result < 4) }
     {
         let code = words::bits(self.code, 5, 0) as usize;
-        words::wide(tables::earliest(code)) as usize
+        usize::from(tables::earliest(code))
     }
 
     // Do the six bits order the four lines?
@@ -47,6 +49,6 @@ impl UseOrder {
         ensures { result ≡ is_order (bits_of self.code 5 0) }
     {
         let code = words::bits(self.code, 5, 0) as usize;
-        words::wide(tables::order_mark(code)) == 1
+        tables::is_order(code)
     }
 }

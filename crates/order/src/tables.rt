@@ -1,6 +1,5 @@
 // The use code's three tables. Each is its rule, computed once over all codes.
 ghost use Rattle.std.specs.Prelude.{◌≡◌, ◌/◌, ◌%◌, ◌<◌};
-ghost use Rattle.words.specs.Words.{pick};
 ghost use Rattle.order.specs.Order.{used_of, earliest_of, is_order};
 
 // The code that follows code c once line n is used, at 4 x c + n.
@@ -24,10 +23,13 @@ const EARLIEST: [u8; 64] = [
     2, 2, 0, 0, 0, 0, 0, 0, 2, 2, 0, 0, 0, 0, 0, 0, 2, 2, 0, 0, 1, 0, 1, 0, 2, 2, 0, 0, 1, 0, 1, 0,
 ];
 
-// 1 where code c is an order of the four lines.
-const ORDERS: [u8; 64] = [
-    1, 1, 0, 1, 1, 0, 1, 1, 0, 0, 0, 1, 0, 0, 0, 1, 0, 0, 0, 0, 1, 0, 1, 0, 0, 0, 0, 0, 0, 0, 1, 1,
-    1, 1, 0, 0, 0, 0, 0, 0, 0, 1, 0, 1, 0, 0, 0, 0, 1, 0, 0, 0, 1, 0, 0, 0, 1, 1, 0, 1, 1, 0, 1, 1,
+// Is code c an order of the four lines?
+const ORDERS: [bool; 64] = [
+    true, true, false, true, true, false, true, true, false, false, false, true, false, false,
+    false, true, false, false, false, false, true, false, true, false, false, false, false, false,
+    false, false, true, true, true, true, false, false, false, false, false, false, false, true,
+    false, true, false, false, false, false, true, false, false, false, true, false, false, false,
+    true, true, false, true, true, false, true, true,
 ];
 
 pub fn next(at: usize) -> u8
@@ -44,9 +46,9 @@ pub fn earliest(code: usize) -> u8
     EARLIEST[code]
 }
 
-pub fn order_mark(code: usize) -> u8
+pub fn is_order(code: usize) -> bool
     requires { code < 64 }
-    ensures { result ≡ pick (is_order code) 1 0 }
+    ensures { result ≡ is_order code }
 {
     ORDERS[code]
 }

@@ -3,6 +3,8 @@ use Rattle.std.specs.Prelude.{ℕ, zero, suc, ◌%◌, Bool, true, false, not, L
 use Rattle.std.proofs.Common.{ap, arith, eqb-true}
 use Rattle.words.specs.Words.{pick}
 use Rattle.memory.specs.Memory.{ram_rule, rom_rule}
+use Rattle.state.specs.declared.Refusal.{Refusal}
+use Rattle.state.specs.Refusal.{number_of, some_number}
 use Rattle.saved.specs.Verdict.{verdict_of}
 
 -- the tests, each with what is tested after it
@@ -87,3 +89,15 @@ write_cells ram rom cells offset e = eqb-true _ _ (held _ 2 _ (past (not (rom_ru
 pub save_cells : (cells out : ℕ) → save_refusal cells out ≡ 0 → cells ≡ 4096
 unfolding save_refusal
 save_cells cells out e = eqb-true _ _ (held _ 2 _ e)
+
+-- ---- tests one after the other
+
+-- a test that fails gives its number, whatever is tested after it
+pub stops : (b : Bool) (n rest : ℕ) (r : Refusal) → number_of r ≡ pick b n 0 → number_of r ≡ pick b n rest
+stops true n rest r e = e
+stops false n rest r e = absurd (some_number r e)
+
+-- one that holds leaves the tests after it
+pub goes_on : (b : Bool) (n rest : ℕ) → 0 ≡ pick b (suc n) 0 → rest ≡ pick b (suc n) rest
+goes_on true n rest e = absurd (omega (arith, e))
+goes_on false n rest e = refl

@@ -48,6 +48,10 @@ unfoldable pub alike : Kind → ℕ → ℕ → Bool
 alike Line a b = valid Line a && valid Line b && eqb (bits_of a 31 12) (bits_of b 31 12)
 alike Entry a b = valid Entry a && valid Entry b && eqb (bits_of a 31 12) (bits_of b 31 12) && eqb (bits_of a 1 1) (bits_of b 1 1)
 
+-- none before word n is like it
+abbrev pub none_like : Kind → ℕ → (ℕ → ℕ) → Bool
+none_like kind n word = below n (λ i. not (alike kind (word i) (word n)))
+
 -- no two of the first n are alike
 abbrev pub apart : Kind → ℕ → (ℕ → ℕ) → Bool
 apart kind n word = below n (λ j. below j (λ i. not (alike kind (word i) (word j))))

@@ -2,7 +2,8 @@
 use Rattle.std.specs.Prelude.{ℕ, Bool, not, ◌&&◌, List, eqb, length}
 use Rattle.words.specs.Words.{pick}
 use Rattle.fields.specs.Fields.{head_at}
-use Rattle.saved.specs.declared.Restored.{Restored}
+use Rattle.state.specs.declared.FaultPair.{FaultPair}
+use Rattle.state.specs.declared.Registers.{Registers}
 use Rattle.saved.specs.Chip.{Chip, chip}
 use Rattle.saved.specs.Image.{read_of}
 use Rattle.saved.specs.Tests.{bits_right, no_doubles}
@@ -30,6 +31,6 @@ loaded_with number c = record { number = number; unit = c }
 unfoldable pub restore_of : List ℕ → Chip → Loaded
 restore_of b c = loaded_with (verdict_of b) (pick (eqb (verdict_of b) 0) (read_of b) c)
 
--- .. as the software hands it over
-abbrev pub loaded : Restored → List ℕ → List ℕ → List ℕ → Loaded
-loaded r patc lines cells = loaded_with r.number (chip r.registers r.pair patc lines cells)
+-- .. as the software hands it over: a number, and all that is lent
+abbrev pub loaded : ℕ → Registers → FaultPair → List ℕ → List ℕ → List ℕ → Loaded
+loaded number u pair patc lines cells = loaded_with number (chip u pair patc lines cells)

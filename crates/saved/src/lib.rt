@@ -8,7 +8,7 @@ pub mod verdict;
 ghost use Rattle.std.specs.Prelude.{◌≡◌};
 ghost use Rattle.saved.specs.Chip.{own_word};
 
-use state::{FaultPair, Registers, own};
+use state::own;
 
 // How the words of a list are laid out, and so which bits of each are its own.
 #[derive(Clone, Copy)]
@@ -28,14 +28,6 @@ pub enum Kind {
     Line,
     // A valid PATC entry, by its page and space.
     Entry,
-}
-
-// What restoring answers: 0 or a refusal's number, and the registers and the fault pair as they then stand.
-#[derive(Clone, Copy)]
-pub struct Restored {
-    pub number: u32,
-    pub registers: Registers,
-    pub pair: FaultPair,
 }
 
 // The own bits of word `i` of a list laid out so.

@@ -1,8 +1,7 @@
 // Tests of an image's words, where they stand in its bytes: own bits, orders, and nothing valid twice.
-ghost use Rattle.std.specs.Prelude.{◌≡◌, not, ◌+◌, ◌*◌, ◌≤◌, length};
+ghost use Rattle.std.specs.Prelude.{◌≡◌, ◌+◌, ◌*◌, ◌≤◌, length};
 ghost use Rattle.fields.specs.Fields.{word_from};
-ghost use Rattle.order.specs.Laws.{below};
-ghost use Rattle.saved.specs.Tests.{registers_own, all_own, all_orders, alike, apart, sets_apart};
+ghost use Rattle.saved.specs.Tests.{registers_own, all_own, all_orders, alike, none_like, apart, sets_apart};
 
 use crate::{Kind, Layout, own_word};
 use order::UseOrder;
@@ -27,15 +26,10 @@ pub fn all_own(layout: Layout, src: &[u8], at: usize, n: usize) -> bool
     requires { at + n * 4 ≤ length src.now }
     ensures { result ≡ all_own layout n (word_from src.now at 4) }
 {
-    let mut i = n;
-    while 0 < i {
-        i -= 1;
+    (0..n).all(|i| {
         let w = fields::word_at(src, at + i * 4);
-        if own_word(layout, i, w) != w {
-            return false;
-        }
-    }
-    true
+        own_word(layout, i, w) == w
+    })
 }
 
 // Is the use code of each of the `n` sets from `at` on an order?
@@ -43,15 +37,7 @@ pub fn all_orders(src: &[u8], at: usize, n: usize) -> bool
     requires { at + n * 20 ≤ length src.now }
     ensures { result ≡ all_orders n (word_from src.now at 4) }
 {
-    let mut s = n;
-    while 0 < s {
-        s -= 1;
-        let order = UseOrder::of(fields::word_at(src, at + s * 20 + 16));
-        if !order.is_order() {
-            return false;
-        }
-    }
-    true
+    (0..n).all(|s| UseOrder::from(fields::word_at(src, at + s * 20 + 16)).is_order())
 }
 
 // Are two lines valid, with one tag; or two PATC entries valid, with one page and space?
@@ -73,35 +59,21 @@ fn are_alike(kind: Kind, a: u32, b: u32) -> bool
     }
 }
 
-// Of `n` words that stand every `step` bytes from `at` on, is none like `w`?
-fn none_like(kind: Kind, src: &[u8], at: usize, step: usize, n: usize, w: u32) -> bool
-    requires { (at + n * step ≤ length src.now) × (4 ≤ step) }
-    ensures { result ≡ below n (λ i. not (alike kind (word_from src.now at step i) w)) }
+// Of the words that stand every `step` bytes from `at` on, is none before word `n` like it?
+fn none_like(kind: Kind, src: &[u8], at: usize, step: usize, n: usize) -> bool
+    requires { (at + n * step + step ≤ length src.now) × (4 ≤ step) }
+    ensures { result ≡ none_like kind n (word_from src.now at step) }
 {
-    let mut i = n;
-    while 0 < i {
-        i -= 1;
-        if are_alike(kind, fields::word_at(src, at + i * step), w) {
-            return false;
-        }
-    }
-    true
+    let w = fields::word_at(src, at + n * step);
+    (0..n).all(|i| !are_alike(kind, fields::word_at(src, at + i * step), w))
 }
 
-// .. are no two alike?
+// .. are no two of the first `n` alike?
 pub fn all_apart(kind: Kind, src: &[u8], at: usize, step: usize, n: usize) -> bool
     requires { (at + n * step ≤ length src.now) × (4 ≤ step) }
     ensures { result ≡ apart kind n (word_from src.now at step) }
 {
-    let mut j = n;
-    while 0 < j {
-        j -= 1;
-        let w = fields::word_at(src, at + j * step);
-        if !none_like(kind, src, at, step, j, w) {
-            return false;
-        }
-    }
-    true
+    (0..n).all(|j| none_like(kind, src, at, step, j))
 }
 
 // In each of the `n` sets from `at` on, are no two lines alike?
@@ -109,12 +81,5 @@ pub fn sets_apart(src: &[u8], at: usize, n: usize) -> bool
     requires { at + n * 20 ≤ length src.now }
     ensures { result ≡ sets_apart n (word_from src.now at 4) }
 {
-    let mut s = n;
-    while 0 < s {
-        s -= 1;
-        if !all_apart(Kind::Line, src, at + s * 20, 4, 4) {
-            return false;
-        }
-    }
-    true
+    (0..n).all(|s| all_apart(Kind::Line, src, at + s * 20, 4, 4))
 }

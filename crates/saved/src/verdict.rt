@@ -1,10 +1,12 @@
 // Whether an image is taken: each test over the whole image before the next. No test stores anything.
 ghost use Rattle.std.specs.Prelude.{◌≡◌, length};
+ghost use Rattle.state.specs.Refusal.{number_in};
 ghost use Rattle.saved.specs.Image.{read_of};
 ghost use Rattle.saved.specs.Tests.{bits_right, no_doubles};
 ghost use Rattle.saved.specs.Verdict.{heads_of, verdict_of};
 
 use crate::{Kind, Layout, read, tests};
+use state::Refusal;
 
 // Does each field's head stand at its place?
 fn heads(src: &[u8]) -> bool
@@ -37,21 +39,21 @@ fn no_doubles(src: &[u8]) -> bool
     tests::sets_apart(src, 532, 256) & tests::all_apart(Kind::Entry, src, 81, 8, 56)
 }
 
-// The first number that applies to an image, 0 if none does.
-pub fn verdict(src: &[u8]) -> u32
-    ensures { result ≡ verdict_of src.now }
+// The first refusal that applies to an image.
+pub fn verdict(src: &[u8]) -> Result<(), Refusal>
+    ensures { number_in result ≡ verdict_of src.now }
 {
     if src.len() != 22039 {
-        return 7;
+        return Err(Refusal::ImageLength);
     }
     if !heads(src) {
-        return 8;
+        return Err(Refusal::ImageHeads);
     }
     if !bits_right(src) {
-        return 9;
+        return Err(Refusal::ImageBits);
     }
     if !no_doubles(src) {
-        return 10;
+        return Err(Refusal::ImageDoubles);
     }
-    0
+    Ok(())
 }

@@ -1,13 +1,24 @@
 -- Reset, and the saved image: a number and nothing changed, or no number and the unit as it then stands.
-use Rattle.std.specs.Prelude.{ℕ, List, eqb, length}
+use Rattle.std.specs.Prelude.{ℕ, List, Result, eqb, length}
 use Rattle.words.specs.Words.{pick}
 use Rattle.state.specs.declared.FaultPair.{FaultPair}
+use Rattle.state.specs.declared.Registers.{Registers}
+use Rattle.state.specs.declared.Refusal.{Refusal}
+use Rattle.state.specs.Refusal.{number_in}
 use Rattle.state.specs.Reset.{reset_of, no_fault}
 use Rattle.fresh.specs.Fresh.{cleared_of, fresh_lines}
 use Rattle.saved.specs.Chip.{Chip, chip}
 use Rattle.saved.specs.Image.{Saved, saved, save_of, read_of as unit_at}
 use Rattle.refusals.specs.Refusals.{reset_refusal, save_refusal, restore_refusal}
-use Rattle.starts.specs.declared.UnitReply.{UnitReply}
+
+-- what reset and restoring answer
+pub record UnitReply : Type 0 where
+  pub number : ℕ
+  pub registers : Registers
+
+-- .. as the software says it: a result, and the registers as they then stand
+abbrev pub unit_said : Registers → Result (Unit {0}) Refusal → UnitReply
+unit_said u r = record { number = number_in r; registers = u }
 
 -- a number, and the whole unit as it then stands
 pub record UnitDone : Type 0 where

@@ -1,3 +1,4 @@
 pub mod Own
 pub mod Reset
 pub mod Outcome
+pub mod Refusal

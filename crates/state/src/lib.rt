@@ -7,6 +7,7 @@ mod places;
 ghost use Rattle.std.specs.Prelude.{◌≡◌};
 ghost use Rattle.state.specs.Reset.{reset_of, no_fault};
 ghost use Rattle.state.specs.Outcome.{case_of, value_of, place_of, status_of, pair_of};
+ghost use Rattle.state.specs.Refusal.{number_of};
 
 pub use places::Place;
 
@@ -86,7 +87,7 @@ pub fn reset(number: u8) -> Registers
 {
     let ports = [0u32; 8];
     Registers {
-        idr: words::wide(number) * 16777216 + 10485760,
+        idr: u32::from(number) * 16777216 + 10485760,
         scr: 0,
         ssr: 0,
         sar: 0,
@@ -125,38 +126,74 @@ pub fn pair(fault: Fault) -> FaultPair
     }
 }
 
-// An outcome's number: 0 idle, 1 the word read, 2 written, 3 fault.
-pub fn case_number(outcome: Outcome) -> u32
-    ensures { result ≡ case_of outcome }
-{
-    match outcome {
-        Outcome::Idle => 0,
-        Outcome::Word(_) => 1,
-        Outcome::Written => 2,
-        Outcome::Failed(_) => 3,
+impl Outcome {
+    // 0 idle, 1 the word read, 2 written, 3 fault.
+    pub fn number(self) -> u32
+        ensures { result ≡ case_of self }
+    {
+        match self {
+            Outcome::Idle => 0,
+            Outcome::Word(_) => 1,
+            Outcome::Written => 2,
+            Outcome::Failed(_) => 3,
+        }
+    }
+
+    // The word that was read, or the fault's code.
+    pub fn value(self) -> u32
+        ensures { result ≡ value_of self }
+    {
+        match self {
+            Outcome::Word(word) => word,
+            Outcome::Failed(fault) => fault.code,
+            Outcome::Idle | Outcome::Written => 0,
+        }
+    }
+
+    // The fault's address.
+    pub fn place(self) -> u32
+        ensures { result ≡ place_of self }
+    {
+        match self {
+            Outcome::Failed(fault) => fault.address,
+            _ => 0,
+        }
     }
 }
 
-// The word that was read, or the fault's code.
-pub fn value(outcome: Outcome) -> u32
-    ensures { result ≡ value_of outcome }
-{
-    match outcome {
-        Outcome::Idle => 0,
-        Outcome::Word(word) => word,
-        Outcome::Written => 0,
-        Outcome::Failed(fault) => fault.code,
-    }
+// Why a malformed call is refused. Each case has a number; of those that apply, the lowest is the answer.
+#[derive(Clone, Copy, PartialEq, Eq, Debug)]
+pub enum Refusal {
+    RamLength,
+    RomLength,
+    CellsLength,
+    Address,
+    Enables,
+    Offset,
+    ImageLength,
+    ImageHeads,
+    ImageBits,
+    ImageDoubles,
+    OutputLength,
 }
 
-// The fault's address.
-pub fn place(outcome: Outcome) -> u32
-    ensures { result ≡ place_of outcome }
-{
-    match outcome {
-        Outcome::Idle => 0,
-        Outcome::Word(_) => 0,
-        Outcome::Written => 0,
-        Outcome::Failed(fault) => fault.address,
+// The number that C functions answer.
+impl From<Refusal> for u32 {
+    ghost from_gives = { λ refusal number. number ≡ number_of refusal };
+
+    fn from(refusal: Refusal) -> u32 {
+        match refusal {
+            Refusal::RamLength => 1,
+            Refusal::RomLength => 2,
+            Refusal::CellsLength => 3,
+            Refusal::Address => 4,
+            Refusal::Enables => 5,
+            Refusal::Offset => 6,
+            Refusal::ImageLength => 7,
+            Refusal::ImageHeads => 8,
+            Refusal::ImageBits => 9,
+            Refusal::ImageDoubles => 10,
+            Refusal::OutputLength => 11,
+        }
     }
 }

@@ -2,7 +2,7 @@
 #![tactic(auto)]
 
 ghost use Rattle.std.specs.Prelude.{◌≡◌, ◌-◌, ◌+◌, ◌^◌, ◌<◌, ◌≤◌};
-ghost use Rattle.words.specs.Words.{bits_of, bit_of, byte_of, lane_of, merge_of, keep_of, join_of, flag_of};
+ghost use Rattle.words.specs.Words.{bits_of, bit_of, lane_of, merge_of, keep_of, join_of, flag_of};
 
 // Bits `high` to `low` of a word.
 pub fn bits(w: u32, high: u32, low: u32) -> u32
@@ -51,26 +51,11 @@ pub fn keep(enables: u32, w: u32) -> u32
     merge(enables, 0, w)
 }
 
-// Byte 3 (bits 31-24), 2, 1 or 0 (bits 7-0) of a word.
-pub fn byte(w: u32, n: u32) -> u8
-    requires { n < 4 }
-    ensures { result ≡ byte_of w n }
-{
-    ((w >> (8 * n)) % 256) as u8
-}
-
-// A byte as a number.
-pub fn wide(x: u8) -> u32
-    ensures { (result ≡ x) × (result < 256) }
-{
-    x as u32
-}
-
 // The word of four bytes, the highest first.
 pub fn join(top: u8, upper: u8, lower: u8, last: u8) -> u32
     ensures { result ≡ join_of top upper lower last }
 {
-    wide(top) * 16777216 + wide(upper) * 65536 + wide(lower) * 256 + wide(last)
+    u32::from_be_bytes([top, upper, lower, last])
 }
 
 // A flag's weight where it is set.

@@ -1,11 +1,12 @@
+use borrow.Author.Tests.{ne_eqb}
+use Rattle.state.specs.Refusal.{number_of, handed_on, some_number}
 use Rattle.exports.specs.Exports.{read_by}
-use borrow.Author.Tests.{eq-eqb, ne_eqb}
 use Rattle.exports.proofs.read_register.Goals as goal
 
-pub returns-then-number-ne0 : goal.returns-then-number-ne0
+pub returns-in_err-read_register : goal.returns-in_err-read_register
 unfolding read_by
-returns-then-number-ne0 c = rw (← c.registers-u.ensures, ← c.read_register-r.ensures, ne_eqb _ _ c.if-number-ne0.true)
+returns-in_err-read_register c = rw (handed_on _ _ c.from_residual.ensures, ← c.registers-u.ensures, ← c.in_err-read_register.ensures, ne_eqb (number_of c.in_err-read_register.field-0.0) 0 (some_number _))
 
 pub returns : goal.returns
 unfolding read_by
-returns c = rw (← c.registers-u.ensures, ← c.read_register-r.ensures, eq-eqb _ _ c.if-number-ne0.false)
+returns c = rw (← c.registers-u.ensures, ← c.in_ok-read_register.ensures)

@@ -1,11 +1,12 @@
+use borrow.Author.Tests.{ne_eqb}
+use Rattle.state.specs.Refusal.{number_of, handed_on, some_number}
 use Rattle.exports.specs.Exports.{snoop_by}
-use borrow.Author.Tests.{eq-eqb, ne_eqb}
 use Rattle.exports.proofs.snoop.Goals as goal
 
-pub returns-then-number-ne0 : goal.returns-then-number-ne0
+pub returns-in_err-answer : goal.returns-in_err-answer
 unfolding snoop_by
-returns-then-number-ne0 c = rw (← c.registers-u.ensures, ← c.bit.ensures, ← c.bit-2.ensures, ← c.snoop-s.ensures, ne_eqb _ _ c.if-number-ne0.true)
+returns-in_err-answer c = rw (handed_on _ _ c.from_residual.ensures, ← c.registers-u.ensures, ← c.bit-g.ensures, ← c.bit-im.ensures, ← c.in_err-answer.ensures, ne_eqb (number_of c.in_err-answer.field-0.0) 0 (some_number _))
 
 pub returns : goal.returns
 unfolding snoop_by
-returns c = rw (c.snooped.ensures, c.put_registers.ensures, ← c.registers-u.ensures, ← c.bit.ensures, ← c.bit-2.ensures, ← c.snoop-s.ensures, eq-eqb _ _ c.if-number-ne0.false)
+returns c = rw (c.snooped.ensures, c.put_registers.ensures, ← c.registers-u.ensures, ← c.bit-g.ensures, ← c.bit-im.ensures, ← c.in_ok-answer.ensures)

@@ -7,6 +7,3 @@ abbrev pub invariant-loop-i : goal.invariant-loop-i
 invariant-loop-i l =
     (l.i ≤ length l.fn.out) × (length l.out ≡ length l.fn.out)
     × (take l.i l.out ++ words_at l.src (l.at + l.i * 4) (length l.fn.out - l.i) ≡ words_at l.src l.at (length l.fn.out))
-
-abbrev pub decreases-loop-i : goal.decreases-loop-i
-decreases-loop-i l = length l.fn.out - l.i

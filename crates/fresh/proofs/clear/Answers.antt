@@ -1,18 +1,14 @@
-use mathlib.Core.Path.{refl}
-use native.Mathlib.Omega.{arith}
-use lib.ListN.{length-set}
-use borrow.Author.Rules.{rules}
-use Rattle.order.specs.Laws.{table, fill_next}
-use Rattle.fresh.specs.Fresh.{cleared_of, filled}
+use Rattle.std.proofs.Common.{◌≡◌, ℕ, zero, suc, List, ◌∷◌, refl, ap, ◌∙◌}
+use Rattle.std.specs.Prelude.{replicate}
+use Rattle.order.specs.Laws.{table}
+use Rattle.fresh.specs.Fresh.{cleared_of}
 use Rattle.fresh.proofs.clear.Goals as goal
 
-pub loop-i-init : goal.loop-i-init
+zeros : (i n : ℕ) → replicate n 0 ≡ table (λ _. 0) i n
 unfolding table
-loop-i-init c = (search rules, refl, refl)
-
-pub loop-i-preserved : goal.loop-i-preserved
-loop-i-preserved c = (search rules, simp length-set c.loop-i.invariant.1, rw c.loop-i.invariant.2 (fill_next (λ _. 0) _ _ (omega arith)))
+zeros i zero = refl
+zeros i (suc n) = ap (λ (l : List ℕ). 0 ∷ l) (zeros (suc i) n)
 
 pub returns : goal.returns
 unfolding cleared_of
-returns c = filled _ _ _ c.loop-i.i (omega arith) (omega arith) c.loop-i.invariant.2
+returns c = c.fill.ensures.after (λ y e. e) ∙ zeros 0 _

@@ -9,11 +9,11 @@ returns-then-out-lt22039 c = save_refused _ _ c.if-out-lt22039.true
 
 pub returns : goal.returns
 returns c =
-    let eight : length c.args.u.ports ≡ 8 = search rules in
+    let eight : length c.args.u.now.ports ≡ 8 = search rules in
     let entries : length c.args.patc.now ≡ 112 = search rules in
     let sets : length c.args.lines.now ≡ 1280 = search rules in
     let words : length c.args.cells.now ≡ 4096 = search rules in
-    save_done (chip c.args.u c.args.pair c.args.patc.now c.args.lines.now c.args.cells.now)
+    save_done (chip c.args.u.now c.args.pair.now c.args.patc.now c.args.lines.now c.args.cells.now)
     (record { ports = eight; patc = entries; lines = sets; cells = words })
-    c.args.out.now _ _ _ _ _ _ c.if-out-lt22039.false c.register_words-regs.ensures
+    c.args.out.now _ _ _ _ _ _ c.if-out-lt22039.false c.register_words.ensures
     c.field.ensures c.field-2.ensures c.field-3.ensures c.field-4.ensures c.field-5.ensures

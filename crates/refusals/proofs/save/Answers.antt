@@ -1,15 +1,12 @@
-use Rattle.refusals.specs.Refusals.{save_refusal}
-use borrow.Author.Tests.{lt-ltb, le-ltb, eq-eqb, ne_eqb}
+use Rattle.std.proofs.Common.{◌∙◌}
+use Rattle.state.specs.Refusal.{handed_on}
+use Rattle.refusals.specs.Refusals.{save_refusal, stops, goes_on}
 use Rattle.refusals.proofs.save.Goals as goal
 
-pub returns-then-cells-ne4096 : goal.returns-then-cells-ne4096
+pub returns-in_err-cells_test : goal.returns-in_err-cells_test
 unfolding save_refusal
-returns-then-cells-ne4096 c = rw (ne_eqb _ _ c.if-cells-ne4096.true)
-
-pub returns-then-out-lt22039 : goal.returns-then-out-lt22039
-unfolding save_refusal
-returns-then-out-lt22039 c = rw (eq-eqb _ _ c.if-cells-ne4096.false, lt-ltb _ _ c.if-out-lt22039.true)
+returns-in_err-cells_test c = rw (handed_on _ _ c.from_residual.ensures) (stops _ 3 _ _ c.in_err-cells_test.ensures)
 
 pub returns : goal.returns
 unfolding save_refusal
-returns c = rw (eq-eqb _ _ c.if-cells-ne4096.false, le-ltb _ _ c.if-out-lt22039.false)
+returns c = c.out_test.ensures ∙ goes_on _ 2 _ c.in_ok-cells_test.ensures

@@ -1,19 +1,20 @@
-use Rattle.refusals.specs.Refusals.{write_refusal, read_refusal}
-use borrow.Author.Tests.{eq-eqb, ne_eqb}
+use Rattle.std.proofs.Common.{◌∙◌}
+use Rattle.state.specs.Refusal.{handed_on}
+use Rattle.refusals.specs.Refusals.{write_refusal, stops, goes_on}
 use Rattle.refusals.proofs.write.Goals as goal
 
-pub returns-then-not-ram_rule : goal.returns-then-not-ram_rule
-unfolding write_refusal read_refusal
-returns-then-not-ram_rule c = rw (← c.ram_rule.ensures, c.if-not-ram_rule.true-raw)
+pub returns-in_err-ram_test : goal.returns-in_err-ram_test
+unfolding write_refusal
+returns-in_err-ram_test c = rw (handed_on _ _ c.from_residual.ensures) (stops _ 1 _ _ c.in_err-ram_test.ensures)
 
-pub returns-then-not-rom_rule : goal.returns-then-not-rom_rule
-unfolding write_refusal read_refusal
-returns-then-not-rom_rule c = rw (← c.ram_rule.ensures, c.if-not-ram_rule.false-raw, ← c.rom_rule.ensures, c.if-not-rom_rule.true-raw)
+pub returns-in_err-rom_test : goal.returns-in_err-rom_test
+unfolding write_refusal
+returns-in_err-rom_test c = rw (handed_on _ _ c.from_residual-in_err-rom_test.ensures) (stops _ 2 _ _ c.in_err-rom_test.ensures ∙ goes_on _ 0 _ c.in_ok-ram_test.ensures)
 
-pub returns-then-cells-ne4096 : goal.returns-then-cells-ne4096
-unfolding write_refusal read_refusal
-returns-then-cells-ne4096 c = rw (← c.ram_rule.ensures, c.if-not-ram_rule.false-raw, ← c.rom_rule.ensures, c.if-not-rom_rule.false-raw, ne_eqb _ _ c.if-cells-ne4096.true)
+pub returns-in_err-cells_test : goal.returns-in_err-cells_test
+unfolding write_refusal
+returns-in_err-cells_test c = rw (handed_on _ _ c.from_residual-in_err-cells_test.ensures) (stops _ 3 _ _ c.in_err-cells_test.ensures ∙ goes_on _ 1 _ c.in_ok-rom_test.ensures ∙ goes_on _ 0 _ c.in_ok-ram_test.ensures)
 
 pub returns : goal.returns
-unfolding write_refusal read_refusal
-returns c = rw (c.read.ensures, ← c.ram_rule.ensures, c.if-not-ram_rule.false-raw, ← c.rom_rule.ensures, c.if-not-rom_rule.false-raw, eq-eqb _ _ c.if-cells-ne4096.false)
+unfolding write_refusal
+returns c = c.offset_test.ensures ∙ goes_on _ 2 _ c.in_ok-cells_test.ensures ∙ goes_on _ 1 _ c.in_ok-rom_test.ensures ∙ goes_on _ 0 _ c.in_ok-ram_test.ensures

@@ -1,11 +1,12 @@
-use Rattle.starts.specs.Starts.{unit_by, fresh_of}
+use Rattle.state.specs.Refusal.{number_of, handed_on, some_number}
 use borrow.Author.Tests.{ne_eqb}
+use Rattle.starts.specs.Starts.{unit_by, fresh_of}
 use Rattle.starts.proofs.reset.Goals as goal
 
-pub returns-then-refusal-ne0 : goal.returns-then-refusal-ne0
+pub returns-in_err-reset : goal.returns-in_err-reset
 unfolding unit_by fresh_of
-returns-then-refusal-ne0 c = rw (c.unit_call.ensures.0, c.unit_call.ensures.1, c.unit_call.ensures.2, ← c.reset-refusal.ensures, ne_eqb _ _ c.if-refusal-ne0.true)
+returns-in_err-reset c = rw (handed_on _ _ c.from_residual.ensures, ← c.in_err-reset.ensures, ne_eqb (number_of c.in_err-reset.field-0.0) 0 (some_number _))
 
 pub returns : goal.returns
 unfolding unit_by fresh_of
-returns c = rw (c.unit_call-2.ensures.0, c.unit_call-2.ensures.1, c.unit_call-2.ensures.2, ← c.reset-refusal.ensures, c.if-refusal-ne0.false, c.no_fault.ensures, c.reset.ensures, c.clear-2.ensures, c.empty.ensures, c.clear.ensures)
+returns c = rw (← c.in_ok-reset.ensures, c.no_fault.ensures, c.reset-2.ensures, c.clear-2.ensures, c.empty.ensures, c.clear.ensures)

@@ -1,16 +1,17 @@
-use Rattle.starts.specs.Starts.{save_by}
+use Rattle.std.proofs.Common.{sym}
+use Rattle.state.specs.Refusal.{number_of, handed_on, some_number}
+use borrow.Author.Tests.{ne_eqb}
 use Rattle.refusals.specs.Refusals.{save_cells}
-use mathlib.Core.Path.{sym, ◌∙◌}
-use borrow.Author.Tests.{eq-eqb, ne_eqb}
+use Rattle.starts.specs.Starts.{save_by}
 use Rattle.starts.proofs.save.Goals as goal
 
-pub returns-then-number-ne0 : goal.returns-then-number-ne0
+pub returns-in_err-save : goal.returns-in_err-save
 unfolding save_by
-returns-then-number-ne0 c = rw (← c.save-number.ensures, ne_eqb _ _ c.if-number-ne0.true)
+returns-in_err-save c = rw (handed_on _ _ c.from_residual.ensures, ← c.in_err-save.ensures, ne_eqb (number_of c.in_err-save.field-0.0) 0 (some_number _))
 
 pub unreachable-requires : goal.unreachable-requires
-unreachable-requires c = c.in_default.ensures.cases (save_cells _ _ (sym c.save-number.ensures ∙ c.if-number-ne0.false))
+unreachable-requires c = c.in_default.ensures.cases (save_cells _ _ (sym c.in_ok-save.ensures))
 
 pub returns : goal.returns
 unfolding save_by
-returns c = rw (← c.save-number.ensures, eq-eqb _ _ c.if-number-ne0.false, ← c.in-Some.ensures.cases.same, ← c.save-number-2.ensures)
+returns c = rw (← c.in_ok-save.ensures, ← c.in-Some.ensures.cases.same, ← c.save-2.ensures)

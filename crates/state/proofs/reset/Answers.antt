@@ -3,4 +3,4 @@ use Rattle.state.proofs.reset.Goals as goal
 
 pub returns : goal.returns
 unfolding reset_of
-returns c = rw c.wide.ensures.0
+returns c = rw c.from.ensures

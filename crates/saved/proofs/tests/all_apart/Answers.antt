@@ -1,16 +1,12 @@
-use mathlib.Core.Path.{◌∙◌}
-use native.Mathlib.Omega.{arith}
-use Rattle.saved.specs.Below.{below_pass, below_fail, below_none}
+use Rattle.std.proofs.Common.{ℕ, Bool, refl, arith, rules, tests, ◌∙◌}
+use Rattle.std.proofs.lemmas.Iterator.{YieldsList-from_range}
+use Rattle.std.proofs.lemmas.Iterator.Search.{all_from_yields_List}
+use Rattle.fields.specs.Fields.{word_from}
+use Rattle.saved.specs.Tests.{none_like}
+use Rattle.saved.proofs.Counted.{counted}
 use Rattle.saved.proofs.tests.all_apart.Goals as goal
-
-pub returns-then-not-none_like : goal.returns-then-not-none_like
-returns-then-not-none_like c =
-    below_fail _ c.loop-j.j (omega arith) (rw (← c.word_at-w.ensures, ← c.none_like.ensures) (c.if-not-none_like.true)) ∙ c.loop-j.invariant.1
-
-pub loop-j-preserved : goal.loop-j-preserved
-loop-j-preserved c =
-    (omega arith, below_pass _ c.loop-j.j (omega arith) (rw (← c.word_at-w.ensures, ← c.none_like.ensures) (c.if-not-none_like.false)) ∙ c.loop-j.invariant.1)
 
 pub returns : goal.returns
 returns c =
-    below_none _ c.loop-j.j (omega arith) ∙ c.loop-j.invariant.1
+    let test : ℕ → Bool = λ j. none_like c.args.kind j (word_from c.args.src.now c.args.at c.args.step) in
+    all_from_yields_List test _ _ c.all.result c.all.ensures.ran (YieldsList-from_range 0 c.args.n c.args.n refl (omega arith)) (λ x b q k. search (rules, tests)) ∙ counted test c.args.n

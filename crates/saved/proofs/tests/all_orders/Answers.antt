@@ -1,27 +1,27 @@
-use Prim.Native.Nat.{◌+◌, ◌-◌, ◌*◌}
-use mathlib.Core.Path.{◌≡◌, sym, ap, ◌∙◌}
-use native.Mathlib.Omega.{arith}
-use Rattle.std.proofs.Common.{ℕ, List, Bool}
+use Rattle.std.proofs.Common.{◌≡◌, ℕ, ◌+◌, ◌*◌, List, Bool, refl, ap, arith, rules, tests, ◌∙◌}
+use Rattle.std.proofs.lemmas.Iterator.{YieldsList-from_range}
+use Rattle.std.proofs.lemmas.Iterator.Search.{all_from_yields_List}
+use Rattle.words.specs.Words.{bits_of}
+use Rattle.order.specs.Order.{is_order}
 use Rattle.fields.specs.Fields.{word_from, word_at}
 use Rattle.state.specs.Own.{own_code, own_code_lem}
-use Rattle.order.specs.Order.{is_order}
-use Rattle.saved.specs.Below.{below_pass, below_fail, below_none}
+use Rattle.saved.specs.Below.{below_same}
+use Rattle.saved.proofs.Counted.{counted}
 use Rattle.saved.proofs.tests.all_orders.Goals as goal
 
 -- what was tested is the use code of the set
-tested : (src : List ℕ) (at s w : ℕ) (r : Bool) → w ≡ word_at src (at + s * 20 + 16) → r ≡ is_order (own_code (own_code w)) → is_order (own_code (word_from src at 4 (s * 5 + 4))) ≡ r
-tested src at s w r ew er = let e : at + (s * 5 + 4) * 4 ≡ at + s * 20 + 16 = omega arith in rw (e, ← ew, er) (ap is_order (sym (own_code_lem w)))
+abbrev tested : List ℕ → ℕ → ℕ → Bool
+tested src at s = is_order (bits_of (bits_of (word_at src (at + s * 20 + 16)) 5 0) 5 0)
 
-pub returns-then-not-is_order : goal.returns-then-not-is_order
+the_code : (src : List ℕ) (at s : ℕ) → tested src at s ≡ is_order (own_code (word_from src at 4 (s * 5 + 4)))
 unfolding own_code
-returns-then-not-is_order c =
-    below_fail _ c.loop-s.s (omega arith) (tested c.args.src.now c.args.at (c.loop-s.s - 1) _ _ c.word_at.ensures (rw c.of-order.ensures at c.is_order.ensures) ∙ c.if-not-is_order.true) ∙ c.loop-s.invariant.1
-
-pub loop-s-preserved : goal.loop-s-preserved
-unfolding own_code
-loop-s-preserved c =
-    (omega arith, below_pass _ c.loop-s.s (omega arith) (tested c.args.src.now c.args.at (c.loop-s.s - 1) _ _ c.word_at.ensures (rw c.of-order.ensures at c.is_order.ensures) ∙ c.if-not-is_order.false) ∙ c.loop-s.invariant.1)
+the_code src at s =
+    let e : at + (s * 5 + 4) * 4 ≡ at + s * 20 + 16 = omega arith in
+    rw e (ap is_order (own_code_lem (word_at src (at + s * 20 + 16))))
 
 pub returns : goal.returns
 returns c =
-    below_none _ c.loop-s.s (omega arith) ∙ c.loop-s.invariant.1
+    let src = c.args.src.now in
+    let at = c.args.at in
+    all_from_yields_List (tested src at) _ _ c.all.result c.all.ensures.ran (YieldsList-from_range 0 c.args.n c.args.n refl (omega arith)) (λ x b q k. search (rules, tests))
+    ∙ counted (tested src at) c.args.n ∙ below_same c.args.n (tested src at) (λ s. is_order (own_code (word_from src at 4 (s * 5 + 4)))) (λ s h. the_code src at s)

@@ -1,17 +1,14 @@
-use mathlib.Core.Path.{◌∙◌}
-use native.Mathlib.Omega.{arith}
-use borrow.Author.Tests.{eq-eqb, ne_eqb}
-use Rattle.saved.specs.Below.{below_pass, below_fail, below_none}
+use Rattle.std.proofs.Common.{ℕ, Bool, refl, arith, rules, tests, ◌∙◌}
+use Rattle.std.proofs.lemmas.Iterator.{YieldsList-from_range}
+use Rattle.std.proofs.lemmas.Iterator.Search.{all_from_yields_List}
+use Rattle.fields.specs.Fields.{word_from}
+use Rattle.saved.specs.Chip.{own_word}
+use Rattle.saved.specs.Tests.{is_own}
+use Rattle.saved.proofs.Counted.{counted}
 use Rattle.saved.proofs.tests.all_own.Goals as goal
-
-pub returns-then-own_word-w : goal.returns-then-own_word-w
-returns-then-own_word-w c =
-    below_fail _ c.loop-i.i (omega arith) (rw (← c.word_at-w.ensures, ← c.own_word.ensures) (ne_eqb _ _ c.if-own_word-w.true)) ∙ c.loop-i.invariant.1
-
-pub loop-i-preserved : goal.loop-i-preserved
-loop-i-preserved c =
-    (omega arith, below_pass _ c.loop-i.i (omega arith) (rw (← c.word_at-w.ensures, ← c.own_word.ensures) (eq-eqb _ _ c.if-own_word-w.false)) ∙ c.loop-i.invariant.1)
 
 pub returns : goal.returns
 returns c =
-    below_none _ c.loop-i.i (omega arith) ∙ c.loop-i.invariant.1
+    let src = c.args.src.now in
+    let test : ℕ → Bool = λ i. is_own (own_word c.args.layout i) (word_from src c.args.at 4 i) in
+    all_from_yields_List test _ _ c.all.result c.all.ensures.ran (YieldsList-from_range 0 c.args.n c.args.n refl (omega arith)) (λ x b q k. search (rules, tests)) ∙ counted test c.args.n

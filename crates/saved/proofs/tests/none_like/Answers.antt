@@ -1,25 +1,14 @@
-use Prim.Native.Nat.{ℕ}
-use mathlib.Core.Path.{◌∙◌}
-use mathlib.Core.Bool.{Bool, not}
-use mathlib.Core.List.{List}
-use native.Mathlib.Omega.{arith}
+use Rattle.std.proofs.Common.{ℕ, Bool, not, refl, arith, rules, tests, ◌∙◌}
+use Rattle.std.proofs.lemmas.Iterator.{YieldsList-from_range}
+use Rattle.std.proofs.lemmas.Iterator.Search.{all_from_yields_List}
 use Rattle.fields.specs.Fields.{word_from}
-use Rattle.saved.specs.declared.Kind.{Kind}
 use Rattle.saved.specs.Tests.{alike}
-use Rattle.saved.specs.Below.{below_pass, below_fail, below_none}
+use Rattle.saved.proofs.Counted.{counted}
 use Rattle.saved.proofs.tests.none_like.Goals as goal
-
-abbrev unlike : Kind → List ℕ → ℕ → ℕ → ℕ → ℕ → Bool
-unlike kind src at step w i = not (alike kind (word_from src at step i) w)
-
-pub returns-then-are_alike : goal.returns-then-are_alike
-returns-then-are_alike c =
-    below_fail _ c.loop-i.i (omega arith) (rw (← c.word_at.ensures, ← c.are_alike.ensures, c.if-are_alike.true)) ∙ c.loop-i.invariant.1
-
-pub loop-i-preserved : goal.loop-i-preserved
-loop-i-preserved c =
-    (omega arith, below_pass _ c.loop-i.i (omega arith) (rw (← c.word_at.ensures, ← c.are_alike.ensures, c.if-are_alike.false)) ∙ c.loop-i.invariant.1)
 
 pub returns : goal.returns
 returns c =
-    below_none _ c.loop-i.i (omega arith) ∙ c.loop-i.invariant.1
+    let src = c.args.src.now in
+    let word : ℕ → ℕ = word_from src c.args.at c.args.step in
+    let test : ℕ → Bool = λ i. not (alike c.args.kind (word i) (word c.args.n)) in
+    all_from_yields_List test _ _ c.all.result c.all.ensures.ran (YieldsList-from_range 0 c.args.n c.args.n refl (omega arith)) (λ x b q k. search (rules, tests)) ∙ counted test c.args.n

@@ -1,26 +1,18 @@
-use Prim.Native.Nat.{◌+◌, ◌*◌}
-use mathlib.Core.Path.{◌≡◌, ◌∙◌}
-use native.Mathlib.Omega.{arith}
-use Rattle.std.proofs.Common.{ℕ, List, Bool}
+use Rattle.std.proofs.Common.{ℕ, ◌+◌, ◌*◌, Bool, refl, sym, arith, rules, tests, ◌∙◌}
+use Rattle.std.proofs.lemmas.Iterator.{YieldsList-from_range}
+use Rattle.std.proofs.lemmas.Iterator.Search.{all_from_yields_List}
 use Rattle.fields.specs.Fields.{word_from}
 use Rattle.saved.specs.declared.Kind.TheVariants.{Line}
 use Rattle.saved.specs.Tests.{apart}
 use Rattle.saved.specs.Laws.{set_bytes}
-use Rattle.saved.specs.Below.{below_pass, below_fail, below_none}
+use Rattle.saved.specs.Below.{below_same}
+use Rattle.saved.proofs.Counted.{counted}
 use Rattle.saved.proofs.tests.sets_apart.Goals as goal
-
--- what was tested are the set's four words
-tested : (src : List ℕ) (at s : ℕ) (r : Bool) → r ≡ apart Line 4 (word_from src (at + s * 20) 4) → apart Line 4 (λ i. word_from src at 4 (s * 5 + i)) ≡ r
-tested src at s r e = rw e (set_bytes src at s)
-
-pub returns-then-not-all_apart : goal.returns-then-not-all_apart
-returns-then-not-all_apart c =
-    below_fail _ c.loop-s.s (omega arith) (tested _ _ _ _ c.all_apart.ensures ∙ c.if-not-all_apart.true) ∙ c.loop-s.invariant.1
-
-pub loop-s-preserved : goal.loop-s-preserved
-loop-s-preserved c =
-    (omega arith, below_pass _ c.loop-s.s (omega arith) (tested _ _ _ _ c.all_apart.ensures ∙ c.if-not-all_apart.false) ∙ c.loop-s.invariant.1)
 
 pub returns : goal.returns
 returns c =
-    below_none _ c.loop-s.s (omega arith) ∙ c.loop-s.invariant.1
+    let src = c.args.src.now in
+    let test : ℕ → Bool = λ s. apart Line 4 (word_from src (c.args.at + s * 20) 4) in
+    let of_sets : ℕ → Bool = λ s. apart Line 4 (λ i. word_from src c.args.at 4 (s * 5 + i)) in
+    all_from_yields_List test _ _ c.all.result c.all.ensures.ran (YieldsList-from_range 0 c.args.n c.args.n refl (omega arith)) (λ x b q k. search (rules, tests))
+    ∙ counted test c.args.n ∙ below_same c.args.n test of_sets (λ s h. sym (set_bytes src c.args.at s))
