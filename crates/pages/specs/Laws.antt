@@ -1,11 +1,11 @@
 -- Laws of translations: the key of a port, and that the words of an entry have only own bits.
-use Rattle.std.specs.Prelude.{ℕ, zero, suc, ◌+◌, ◌*◌, ◌<◌, ◌≡◌, Bool, true, false, ◌&&◌, eqb}
-use Rattle.std.proofs.Common.{arith, eq-eqb, ne_eqb, eqb-true}
-use Rattle.words.specs.Words.{bits_of, flag_of}
-use Rattle.words.specs.Laws.{both_ways}
+use Rattle.std.specs.Prelude.{ℕ, zero, suc, ◌+◌, ◌*◌, ◌<◌, ◌≡◌, Bool, true, false, ◌&&◌, List, [], ◌∷◌, Option, Some, find, if◌then◌else◌, eqb}
+use Rattle.std.proofs.Common.{refl, arith, eq-eqb, ne_eqb, eqb-true}
+use Rattle.words.specs.Words.{pick, bits_of, bit_of, flag_of}
+use Rattle.words.specs.Laws.{both_ways, and_left}
 use Rattle.state.specs.Own.{own_tag, own_frame, tag_fields, frame_fields}
 use Rattle.pages.specs.declared.Translation.{Translation}
-use Rattle.pages.specs.Pages.{same, port_hits, port_key, block_key, page_word_of, frame_word_of}
+use Rattle.pages.specs.Pages.{same, port_hits, port_key, block_key, port_of, valid_port, page_word_of, frame_word_of}
 
 -- a flag is its weight times 0 or 1
 pub flag_bit : (b : Bool) (weight : ℕ) → (flag_of b weight ≡ weight * flag_of b 1) × (flag_of b 1 < 2)
@@ -33,6 +33,26 @@ parts x y (suc (suc a)) b s la lb = absurd (omega arith)
 pub port_key_lem : (port address : ℕ) (s : Bool) → eqb (port_key port) (block_key address s) ≡ port_hits port address s
 unfolding port_key block_key port_hits
 port_key_lem port address s = parts (bits_of port 31 19) (bits_of address 31 19) (bits_of port 5 5) (bits_of port 0 0) s (omega arith) (omega arith)
+
+-- a port that is hit is valid
+hit_valid : (port address : ℕ) (s : Bool) → port_hits port address s ≡ true → bit_of port 0 ≡ true
+unfolding port_hits
+hit_valid port address s e = and_left (bit_of port 0) (same (bit_of port 5) s) (and_left (bit_of port 0 && same (bit_of port 5) s) _ e)
+
+-- the first port with the key is the one that is hit
+module _ (address : ℕ) (s : Bool) where
+  abbrev with_key : List ℕ → Option ℕ
+  with_key ports = find (λ port. eqb (port_key port) (block_key address s)) ports
+
+  pub find_port : (ports : List ℕ) → with_key ports ≡ valid_port (port_of ports address s)
+  unfolding port_of
+  find_port [] = refl
+  find_port (port ∷ ports) = rw (port_key_lem port address s) (go (find_port ports) (port_hits port address s) refl)
+    where
+      go : with_key ports ≡ valid_port (port_of ports address s) → (b : Bool) → port_hits port address s ≡ b
+          → (if b then Some port else with_key ports) ≡ valid_port (pick b port (port_of ports address s))
+      go rest true e = rw (hit_valid port address s e)
+      go rest false e = rest
 
 -- ---- an entry's words have only own bits
 

@@ -1,8 +1,10 @@
 -- From logical to physical, points 3 to 6: translations by the area pointer, by a port, by an entry, and by a segment and a page descriptor.
-use Rattle.std.specs.Prelude.{ℕ, ◌+◌, ◌*◌, ◌/◌, ◌%◌, Bool, true, false, not, ◌&&◌, ◌||◌, List, [], ◌∷◌, eqb}
+use Rattle.std.specs.Prelude.{ℕ, ◌+◌, ◌*◌, ◌/◌, ◌%◌, Bool, true, false, not, ◌&&◌, ◌||◌, List, [], ◌∷◌, Option, Some, None, Result, Ok, Err, eqb}
 use Rattle.std.specs.Bool.{beq}
 use Rattle.words.specs.Words.{pick, bits_of, bit_of, flag_of}
 use Rattle.pages.specs.declared.Translation.{Translation}
+use Rattle.pages.specs.declared.Violation.{Violation}
+use Rattle.pages.specs.declared.Violation.TheVariants.{Supervisor, Write}
 
 -- are two tests alike?
 abbrev pub same : Bool → Bool → Bool
@@ -27,6 +29,10 @@ block_key address s = bits_of address 31 19 * 524288 + flag_of s 32 + 1
 unfoldable pub port_of : List ℕ → ℕ → Bool → ℕ
 port_of [] address s = 0
 port_of (port ∷ ports) address s = pick (port_hits port address s) port (port_of ports address s)
+
+-- a port that is valid, and none otherwise
+abbrev pub valid_port : ℕ → Option ℕ
+valid_port port = pick (bit_of port 0) (Some port) None
 
 -- BATC word: bits 18-6 physical block, WT 4, G 3, CI 2, WP 1
 unfoldable pub block_of : ℕ → ℕ → Translation
@@ -59,6 +65,16 @@ paged_of frame address =
 -- user with SP is fault 6, then a write with WP is fault 7; 0 for none
 unfoldable pub protection_of : Translation → Bool → Bool → ℕ
 protection_of t s write = pick (t.sp && not s) 6 (pick (t.wp && write) 7 0)
+
+-- the same number, for a violation by its name
+abbrev pub violation_code : Violation → ℕ
+violation_code Supervisor = 6
+violation_code Write = 7
+
+-- .. and for what a test of the protection answers
+abbrev pub protection_code : Result (Unit {0}) Violation → ℕ
+protection_code (Ok x) = 0
+protection_code (Err v) = violation_code v
 
 -- the segment descriptor at base + 4 x bits 31-22, then the page descriptor at base + 4 x bits 21-12
 unfoldable pub segment_at : ℕ → ℕ → ℕ

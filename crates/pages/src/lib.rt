@@ -1,10 +1,10 @@
 // From logical to physical: the block translations (BATC), and what a page translation and a table search's descriptors say.
-#![tactic(auto)]
+#![tactic(auto, unfolding(crate::specs::Pages::unmapped_of, crate::specs::Pages::port_key, crate::specs::Pages::block_key, crate::specs::Pages::block_of, crate::specs::Pages::paged_of, crate::specs::Pages::protection_of))]
 
 pub mod tables;
 
-ghost use Rattle.std.specs.Prelude.{◌≡◌, ◌<◌};
-ghost use Rattle.pages.specs.Pages.{port_key, block_key, port_of, block_of, unmapped_of, paged_of, protection_of};
+ghost use Rattle.std.specs.Prelude.{◌≡◌, ◌<◌, eqb, find};
+ghost use Rattle.pages.specs.Pages.{port_key, block_key, port_of, valid_port, block_of, unmapped_of, paged_of, protection_of, violation_code, protection_code};
 
 // A physical address with its attributes.
 #[derive(Clone, Copy)]
@@ -49,19 +49,18 @@ fn block_key(address: u32, supervisor: bool) -> u32
     words::bits(address, 31, 19) * 524288 + words::flag(supervisor, 32) + 1
 }
 
-// The word of the lowest port that an address hits, or 0: no port that is not valid hits.
-pub fn port(ports: &[u32], address: u32, supervisor: bool) -> u32
-    ensures { result ≡ port_of ports.now address supervisor }
+// The word of the lowest port that an address hits.
+pub fn port(ports: &[u32], address: u32, supervisor: bool) -> Option<u32>
+    ensures { result ≡ valid_port (port_of ports.now address supervisor) }
 {
-    let key = block_key(address, supervisor);
-    let mut n: usize = 0;
-    while n < ports.len() {
-        if port_key(ports[n]) == key {
-            return ports[n];
-        }
-        n += 1;
-    }
-    0
+    keyed(ports, block_key(address, supervisor))
+}
+
+// The first port with a key.
+fn keyed(ports: &[u32], key: u32) -> Option<u32>
+    ensures { result ≡ find (λ port. eqb (port_key port) key) ports.now }
+{
+    ports.iter().copied().find(|port| port_key(*port) == key)
 }
 
 // The translation of a BATC word.
@@ -96,15 +95,34 @@ pub fn paged(frame: u32, address: u32) -> Translation
     }
 }
 
-// The fault that an access meets by its translation, or 0: user with SP is 6; then a write with WP is 7.
-pub fn protection(t: Translation, supervisor: bool, write: bool) -> u32
-    ensures { (result ≡ protection_of t supervisor write) × (result < 8) }
+// Why a translation may not be used: a user's access to a supervisor's area, or a write to what is write protected.
+#[derive(Clone, Copy)]
+pub enum Violation {
+    Supervisor,
+    Write,
+}
+
+// The code of the fault that it is.
+impl From<Violation> for u32 {
+    fn from(violation: Violation) -> Self
+        ensures { result ≡ violation_code violation }
+    {
+        match violation {
+            Violation::Supervisor => 6,
+            Violation::Write => 7,
+        }
+    }
+}
+
+// May an access use its translation? SP bars users, then WP bars writes.
+pub fn protection(t: Translation, supervisor: bool, write: bool) -> Result<(), Violation>
+    ensures { protection_code result ≡ protection_of t supervisor write }
 {
     if t.sp & !supervisor {
-        return 6;
+        return Err(Violation::Supervisor);
     }
     if t.wp & write {
-        return 7;
+        return Err(Violation::Write);
     }
-    0
+    Ok(())
 }

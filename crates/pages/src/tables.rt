@@ -1,4 +1,6 @@
 // A table search's two descriptors: where they stand, and what they make together.
+#![tactic(auto, unfolding(crate::specs::Pages::segment_at, crate::specs::Pages::page_at, crate::specs::Pages::combined_of, crate::specs::Pages::stale_of, crate::specs::Pages::described_of, crate::specs::Pages::renewed_of, crate::specs::Pages::page_word_of, crate::specs::Pages::frame_word_of))]
+
 ghost use Rattle.std.specs.Prelude.{◌≡◌, ◌||◌, ◌<◌};
 ghost use Rattle.words.specs.Words.{bit_of};
 ghost use Rattle.pages.specs.Pages.{segment_at, page_at, combined_of, stale_of, renewed_of, described_of, page_word_of, frame_word_of};
@@ -74,14 +76,9 @@ pub fn renewed(t: Translation, write: bool) -> Translation
     ensures { result ≡ renewed_of t write }
 {
     Translation {
-        address: t.address,
-        wt: t.wt,
-        sp: t.sp,
-        g: t.g,
-        ci: t.ci,
         m: t.m | write,
         u: true,
-        wp: t.wp,
+        ..t
     }
 }
 
