@@ -1,11 +1,11 @@
 -- Laws of the page translations: the key of an entry, the free entry by trailing zeros, the bounds, and that no entry comes to stand twice.
 use Prim.Native.Nat.{ℕ, zero, suc, ◌+◌, ◌-◌, ◌*◌, ◌/◌, ◌%◌, ◌^◌, ◌<◌, ◌≤◌}
-use Rattle.std.specs.Prelude.{◌≡◌, Bool, ◌&&◌, List, ◌⊎◌, length, set, eqb, ltb}
+use Rattle.std.specs.Prelude.{◌≡◌, Bool, ◌&&◌, List, Some, None, ◌⊎◌, length, set, eqb, ltb}
 use Rattle.std.proofs.Math.Path.{refl, subst}
-use Rattle.std.proofs.Common.{sym, ap, ◌∙◌, true≢false, inl, inr, add-one, suc-add, length-set, get_or-set_same, get_or-set_other, pow_mono}
+use Rattle.std.proofs.Common.{sym, ap, ◌∙◌, true≢false, inl, inr, add-one, add-zero, zero-add, suc-add, length-set, get_or-set_same, get_or-set_other, pow_mono}
 use Rattle.std.proofs.Math.Bool.{true, false}
 use native.Mathlib.Omega.{arith}
-use Rattle.std.proofs.Math.Nat.{pow-suc, lt_of_lt_of_le}
+use Rattle.std.proofs.Math.Nat.{pow-suc, lt_of_lt_of_le, mul_assoc}
 use Rattle.std.proofs.Math.Decide.{ℕ_discrete}
 use Rattle.std.specs.Int.Count.{count_trailing_zeros, under}
 use Rattle.std.proofs.lemmas.Nat.{mod-pow-add}
@@ -14,7 +14,7 @@ use Rattle.words.specs.Words.{pick, bits_of, bit_of}
 use Rattle.words.specs.Laws.{either, both_ways, and_left, and_right}
 use Rattle.state.specs.Own.{own_tag, own_pointer, pointer_small}
 use Rattle.pages.specs.Pages.{same, page_word_of}
-use Rattle.patc.specs.Patc.{page_word, entry_hits, entry_from, entry_of, valid_of, map_of, free_from, free_of, put_of, Loaded, load_of}
+use Rattle.patc.specs.Patc.{some_slot, page_word, entry_hits, entry_from, entry_of, valid_of, map_of, free_from, free_of, put_of, Loaded, load_of}
 
 -- ---- the key: one comparison tells valid, space and page together
 
@@ -96,7 +96,29 @@ module _ (ps : List ℕ) (address : ℕ) (s : Bool) where
   unfolding entry_from
   entry_end n k h = let e : k - n ≡ 0 = omega arith in rw e
 
+-- ---- a slot or none, by the number that a definition has
+
+pub slot_some : (n m : ℕ) → some_slot n ≡ Some m → (ltb n 56 ≡ true) × (n ≡ m)
+slot_some n m e = go (ltb n 56) refl e
+  where
+    go : (b : Bool) → ltb n 56 ≡ b → pick b (Some n) None ≡ Some m → (ltb n 56 ≡ true) × (n ≡ m)
+    go true t f = (t, cc)
+    go false t f = absurd cc
+
+pub slot_none : (n : ℕ) → some_slot n ≡ None → ltb n 56 ≡ false
+slot_none n e = go (ltb n 56) refl e
+  where
+    go : (b : Bool) → ltb n 56 ≡ b → pick b (Some n) None ≡ None → ltb n 56 ≡ false
+    go true t f = absurd cc
+    go false t f = t
+
 -- ---- the free entry: trailing zeros of the complemented map
+
+-- an entry's bit fits the map
+pub bit_fits : (v n : ℕ) → v < 2 → n < 56 → v * 2 ^ n % 18446744073709551616 ≡ v * 2 ^ n
+bit_fits zero n h l = omega arith
+bit_fits (suc zero) n h l = let p : 2 ^ n ≤ 2 ^ 56 = pow_mono {j = 56} (omega arith) in omega arith
+bit_fits (suc (suc v)) n h l = absurd (omega arith)
 
 module _ (ps : List ℕ) where
   pub map_small : (n k : ℕ) → map_of ps n k < 2 ^ k
@@ -104,9 +126,20 @@ module _ (ps : List ℕ) where
   map_small n zero = omega arith
   map_small n (suc k) = let h : map_of ps (suc n) k < 2 ^ k = map_small (suc n) k in rw (pow-suc 2 k) (omega arith)
 
-  pub map_step : (n k : ℕ) → 0 < n → n ≤ k → map_of ps (n - 1) (k - (n - 1)) ≡ map_of ps n (k - n) * 2 + valid_of (page_word ps (n - 1))
+  doubled : (a b x p : ℕ) → (a + x * p) * 2 + b ≡ a * 2 + b + x * (p * 2)
+  doubled a b x p = omega (arith, mul_assoc x p 2)
+
+  -- one entry more is one bit more, above the others
+  map_more : (n k : ℕ) → map_of ps n (suc k) ≡ map_of ps n k + valid_of (page_word ps (n + k)) * 2 ^ k
   unfolding map_of
-  map_step n k h l = let e : k - (n - 1) ≡ suc (k - n) = omega arith in let f : suc (n - 1) ≡ n = omega arith in rw (e, f)
+  map_more n zero = rw add-zero (omega arith)
+  map_more n (suc k) = let e : suc n + k ≡ n + suc k = omega arith in rw (map_more (suc n) k, pow-suc 2 k, e) (doubled _ _ _ _)
+
+  pub map_next : (n : ℕ) → map_of ps 0 (suc n) ≡ map_of ps 0 n + valid_of (page_word ps n) * 2 ^ n
+  map_next n = rw zero-add at (map_more 0 n)
+
+  pub map_fits : (n : ℕ) → n < 56 → map_of ps 0 (suc n) < 72057594037927936
+  map_fits n l = lt_of_lt_of_le (map_small 0 (suc n)) (pow_mono {j = 56} (omega arith))
 
   digit : (x y v : ℕ) → y < x → v < 2 → ((x * 2 - 1) - (y * 2 + v)) % 2 ≡ 1 - v
   digit x y v h l = omega arith

@@ -1,10 +1,14 @@
 -- The page translations: 56 entries of a page word and a frame word.
-use Rattle.std.specs.Prelude.{ℕ, zero, suc, ◌+◌, ◌*◌, Bool, true, ◌&&◌, List, get_or, set, eqb, ltb}
+use Rattle.std.specs.Prelude.{ℕ, zero, suc, ◌+◌, ◌*◌, Bool, true, ◌&&◌, List, Option, Some, None, get_or, set, eqb, ltb}
 use Rattle.words.specs.Words.{pick, bits_of, bit_of, flag_of}
 use Rattle.state.specs.Own.{own_pointer}
 use Rattle.pages.specs.Pages.{same}
 use Rattle.patc.specs.declared.Range.{Range}
 use Rattle.patc.specs.declared.Range.TheVariants.{Page, Segment, All}
+
+-- the slot of a number; 56, or more, stands for none
+abbrev pub some_slot : ℕ → Option ℕ
+some_slot n = pick (ltb n 56) (Some n) None
 
 abbrev pub page_word : List ℕ → ℕ → ℕ
 page_word ps n = get_or ps (n * 2) 0

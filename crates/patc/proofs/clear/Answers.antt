@@ -1,13 +1,12 @@
 use mathlib.Core.Path.{refl}
-use native.Mathlib.Numerals.{add-one}
-use borrow.Author.Rules.{rules}
+use Rattle.std.proofs.Common.{add-one}
 use Rattle.patc.specs.Patc.{cleared_to}
 use Rattle.patc.proofs.clear.Goals as goal
 
-pub loop-n-init : goal.loop-n-init
+pub loop-number-init : goal.loop-number-init
 unfolding cleared_to
-loop-n-init c = (search rules, refl)
+loop-number-init c = refl
 
-pub loop-n-preserved : goal.loop-n-preserved
+pub loop-number-preserved : goal.loop-number-preserved
 unfolding cleared_to
-loop-n-preserved c = (search rules, rw (add-one, c.cleared.ensures, ← c.loop-n.invariant.1))
+loop-number-preserved c = rw (add-one, c.cleared.ensures, ← c.loop-number.invariant)

@@ -1,11 +1,7 @@
--- the first n entries are cleared
-use Prim.Native.Nat.{◌-◌, ◌≤◌}
+-- the entries below this one are cleared
 use mathlib.Core.Path.{◌≡◌}
 use Rattle.patc.specs.Patc.{cleared_to}
 use Rattle.patc.proofs.clear.Given as goal
 
-abbrev pub invariant-loop-n : goal.invariant-loop-n
-invariant-loop-n l = (l.n ≤ 56) × (l.patc ≡ cleared_to l.range l.supervisor l.address l.initial.patc l.n)
-
-abbrev pub decreases-loop-n : goal.decreases-loop-n
-decreases-loop-n l = 56 - l.n
+abbrev pub invariant-loop-number : goal.invariant-loop-number
+invariant-loop-number l = l.patc ≡ cleared_to l.range l.supervisor l.address l.initial.patc l.number

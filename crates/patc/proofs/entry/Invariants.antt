@@ -1,12 +1,8 @@
 -- the entries not yet looked at decide what all of them do
-use Prim.Native.Nat.{◌-◌, ◌/◌, ◌%◌, ◌≤◌}
+use Prim.Native.Nat.{◌-◌}
 use mathlib.Core.Path.{◌≡◌}
-use Rattle.patc.specs.Patc.{entry_from}
+use Rattle.patc.specs.Patc.{entry_from, entry_of}
 use Rattle.patc.proofs.entry.Given as goal
 
-abbrev pub invariant-loop-at : goal.invariant-loop-at
-invariant-loop-at l =
-    (l.at ≤ 112) × (l.at % 2 ≡ 0) × (entry_from l.patc l.address l.supervisor (l.at / 2) (56 - l.at / 2) ≡ entry_from l.patc l.address l.supervisor 0 56)
-
-abbrev pub decreases-loop-at : goal.decreases-loop-at
-decreases-loop-at l = 112 - l.at
+abbrev pub invariant-loop-number : goal.invariant-loop-number
+invariant-loop-number l = entry_from l.patc l.address l.supervisor l.number (56 - l.number) ≡ entry_of l.patc l.address l.supervisor

@@ -1,5 +1,5 @@
 use Rattle.patc.specs.Patc.{free_of}
-use Rattle.patc.specs.Laws.{free_zeros, free_small}
+use Rattle.patc.specs.Laws.{free_zeros}
 use lib.Count.{count_trailing_zeros}
 use Prim.Native.Nat.{◌-◌}
 use mathlib.Core.Path.{◌≡◌, sym}
@@ -7,4 +7,4 @@ use Rattle.patc.proofs.free.Goals as goal
 
 pub returns : goal.returns
 returns c = let e : count_trailing_zeros 64 (18446744073709551615 - c.valid_map.result) ≡ free_of c.args.patc.now = rw c.valid_map.ensures.0 (sym (free_zeros _ 0 56)) in
-    (e, rw e (free_small _ 0 56))
+    rw (c.new.ensures, e)

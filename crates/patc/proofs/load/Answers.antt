@@ -1,19 +1,14 @@
-use Rattle.state.specs.Own.{pointer_small}
-use native.Mathlib.Omega.{arith}
+use mathlib.Core.Path.{sym, ◌∙◌}
 use Rattle.patc.specs.Patc.{load_of}
-use borrow.Author.Tests.{lt-ltb, le-ltb}
+use Rattle.patc.specs.Laws.{slot_some, slot_none}
 use Rattle.patc.proofs.load.Goals as goal
 
-pub returns-then-n-lt56 : goal.returns-then-n-lt56
+pub returns-in-Some : goal.returns-in-Some
 unfolding load_of
-returns-then-n-lt56 c = rw (c.put.ensures, ← c.free-n.ensures.0, lt-ltb _ _ c.if-n-lt56.true)
+returns-in-Some c =
+    let s = slot_some _ c.in-Some.slot (sym c.free.ensures ∙ c.in-Some.is) in
+    rw (c.put.ensures, s.0, s.1)
 
-pub put-requires-2 : goal.put-requires-2
-put-requires-2 c = rw c.pointer-at.ensures (omega (arith, pointer_small c.args.pointer))
-
-pub stepped-requires : goal.stepped-requires
-stepped-requires c = rw c.pointer-at.ensures (pointer_small _)
-
-pub returns : goal.returns
+pub returns-in-None : goal.returns-in-None
 unfolding load_of
-returns c = rw (c.stepped.ensures, c.put-2.ensures, c.pointer-at.ensures, ← c.free-n.ensures.0, le-ltb _ _ c.if-n-lt56.false)
+returns-in-None c = rw (c.stepped.ensures, c.put-in-None.ensures, c.pointed-at.ensures, slot_none _ (sym c.free.ensures ∙ c.in-None.is))
