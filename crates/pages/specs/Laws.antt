@@ -1,5 +1,5 @@
 -- Laws of translations: the key of a port, and that the words of an entry have only own bits.
-use Rattle.std.specs.Prelude.{ℕ, zero, suc, ◌+◌, ◌*◌, ◌<◌, ◌≡◌, Bool, true, false, ◌&&◌, List, [], ◌∷◌, Option, Some, find, if◌then◌else◌, eqb}
+use Rattle.std.specs.Prelude.{ℕ, zero, suc, ◌+◌, ◌*◌, ◌<◌, ◌≡◌, Bool, true, false, ◌&&◌, List, [], ◌∷◌, Option, Some, None, find, if◌then◌else◌, eqb}
 use Rattle.std.proofs.Common.{refl, arith, eq-eqb, ne_eqb, eqb-true}
 use Rattle.words.specs.Words.{pick, bits_of, bit_of, flag_of}
 use Rattle.words.specs.Laws.{both_ways, and_left}
@@ -53,6 +53,21 @@ module _ (address : ℕ) (s : Bool) where
           → (if b then Some port else with_key ports) ≡ valid_port (pick b port (port_of ports address s))
       go rest true e = rw (hit_valid port address s e)
       go rest false e = rest
+
+-- a port or none, by the word that a definition has
+pub hits_port : (w p : ℕ) → valid_port w ≡ Some p → (bit_of w 0 ≡ true) × (w ≡ p)
+hits_port w p e = go (bit_of w 0) e
+  where
+    go : (b : Bool) → pick b (Some w) None ≡ Some p → (b ≡ true) × (w ≡ p)
+    go true f = (refl, cc)
+    go false f = absurd cc
+
+pub no_port : (w : ℕ) → valid_port w ≡ None → bit_of w 0 ≡ false
+no_port w e = go (bit_of w 0) e
+  where
+    go : (b : Bool) → pick b (Some w) None ≡ None → b ≡ false
+    go true f = absurd cc
+    go false f = refl
 
 -- ---- an entry's words have only own bits
 

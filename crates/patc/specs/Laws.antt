@@ -99,18 +99,18 @@ module _ (ps : List ℕ) (address : ℕ) (s : Bool) where
 -- ---- a slot or none, by the number that a definition has
 
 pub slot_some : (n m : ℕ) → some_slot n ≡ Some m → (ltb n 56 ≡ true) × (n ≡ m)
-slot_some n m e = go (ltb n 56) refl e
+slot_some n m e = go (ltb n 56) e
   where
-    go : (b : Bool) → ltb n 56 ≡ b → pick b (Some n) None ≡ Some m → (ltb n 56 ≡ true) × (n ≡ m)
-    go true t f = (t, cc)
-    go false t f = absurd cc
+    go : (b : Bool) → pick b (Some n) None ≡ Some m → (b ≡ true) × (n ≡ m)
+    go true f = (refl, cc)
+    go false f = absurd cc
 
 pub slot_none : (n : ℕ) → some_slot n ≡ None → ltb n 56 ≡ false
-slot_none n e = go (ltb n 56) refl e
+slot_none n e = go (ltb n 56) e
   where
-    go : (b : Bool) → ltb n 56 ≡ b → pick b (Some n) None ≡ None → ltb n 56 ≡ false
-    go true t f = absurd cc
-    go false t f = t
+    go : (b : Bool) → pick b (Some n) None ≡ None → b ≡ false
+    go true f = absurd cc
+    go false f = refl
 
 -- ---- the free entry: trailing zeros of the complemented map
 
