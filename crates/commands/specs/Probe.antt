@@ -5,10 +5,8 @@ use Rattle.memory.specs.declared.Read.{Read}
 use Rattle.memory.specs.Memory.{read_of}
 use Rattle.state.specs.declared.Registers.{Registers}
 use Rattle.pages.specs.declared.Translation.{Translation}
-use Rattle.lookup.specs.declared.Place.{Place}
-use Rattle.lookup.specs.declared.Place.TheVariants.{Unmapped, Block, Page, Nowhere}
 use Rattle.pages.specs.Pages.{segment_at, page_at, combined_of}
-use Rattle.lookup.specs.Lookup.{place_of}
+use Rattle.lookup.specs.Lookup.{Place, Unmapped, Block, Page, Nowhere, place_of}
 use Rattle.registers.specs.Registers.{Ran, area_of, with_status}
 
 -- CE kept

@@ -103,9 +103,9 @@ pub fn probe(
 {
     let area = registers::area(u, supervisor);
     match lookup::find(area, &u.ports, patc, u.sar, supervisor) {
-        Place::Unmapped(t) | Place::Page(_, t) => found(u, t, false),
-        Place::Block(t) => found(u, t, true),
-        Place::Nowhere => return tables(u, area, ram, rom),
+        Some(Place::Unmapped(t) | Place::Page(_, t)) => found(u, t, false),
+        Some(Place::Block(t)) => found(u, t, true),
+        None => return tables(u, area, ram, rom),
     }
     0
 }

@@ -20,10 +20,7 @@ use Rattle.state.specs.declared.Transaction.{Transaction}
 use Rattle.state.specs.declared.Outcome.TheVariants.{Written}
 use Rattle.state.specs.Outcome.{case_of}
 use Rattle.pages.specs.declared.Translation.{Translation}
-use Rattle.lookup.specs.declared.Lookup.{Lookup}
-use Rattle.lookup.specs.declared.Lookup.TheVariants.{Found, Search, Violation}
-use Rattle.lookup.specs.declared.Walked.{Walked}
-use Rattle.lookup.specs.declared.Walked.TheVariants.{Update, Complete, Violation as Barred}
+use Rattle.lookup.specs.Lookup.{Lookup, Found, Search, Violation, Walked, Update, Complete, Barred}
 use Rattle.pages.specs.Pages.{segment_at, page_at}
 use Rattle.course.specs.Course.{no_transaction}
 use Rattle.flight.specs.Ops.{Got, Shown, Sent, Ops}

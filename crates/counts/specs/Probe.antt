@@ -11,9 +11,8 @@ use Rattle.memory.specs.Memory.{read_of, in_rom, ram_place}
 use Rattle.state.specs.declared.Registers.{Registers}
 use Rattle.state.specs.declared.FaultPair.{FaultPair}
 use Rattle.state.specs.Own.{own_scr}
-use Rattle.lookup.specs.declared.Place.TheVariants.{Nowhere}
 use Rattle.pages.specs.Pages.{segment_at, page_at}
-use Rattle.lookup.specs.Lookup.{place_of}
+use Rattle.lookup.specs.Lookup.{Nowhere, place_of}
 use Rattle.registers.specs.Registers.{area_of, with_scr, with_ssr, with_sar}
 use Rattle.commands.specs.Commands.{probing_of, command_of, run_of}
 use Rattle.control.specs.Control.{write_of}

@@ -2,9 +2,7 @@
 use Rattle.std.specs.Prelude.{ℕ, List}
 use Rattle.state.specs.declared.Access.{Access}
 use Rattle.state.specs.declared.Outcome.TheVariants.{Failed}
-use Rattle.lookup.specs.declared.Lookup.{Lookup}
-use Rattle.lookup.specs.declared.Lookup.TheVariants.{Found, Violation, Search}
-use Rattle.lookup.specs.Lookup.{place_of, judge_of}
+use Rattle.lookup.specs.Lookup.{Lookup, Found, Violation, Search, place_of, judge_of}
 use Rattle.course.specs.declared.Course.{Course}
 use Rattle.course.specs.Course.{fresh_of, with_translation, ended_of}
 use Rattle.course.specs.Next.{Cached, cached}

@@ -7,10 +7,7 @@ use Rattle.std.proofs.Math.Dec.{eqb, ltb}
 use Rattle.words.specs.Words.{pick, bit_of}
 use Rattle.lines.specs.Lines.{modified, state_of, tag_word, hit_of, victim_of}
 use Rattle.state.specs.declared.Access.{Access}
-use Rattle.lookup.specs.declared.Lookup.{Lookup}
-use Rattle.lookup.specs.declared.Lookup.TheVariants.{Found, Search, Violation}
-use Rattle.lookup.specs.declared.Walked.{Walked}
-use Rattle.lookup.specs.declared.Walked.TheVariants.{Update, Complete, Violation as Barred}
+use Rattle.lookup.specs.Lookup.{Lookup, Found, Search, Violation, Walked, Update, Complete, Barred}
 use Rattle.patc.specs.Patc.{Loaded, load_of}
 use Rattle.pages.specs.Pages.{page_word_of, frame_word_of}
 use Rattle.course.specs.declared.Course.{Course}

@@ -5,11 +5,9 @@ use Rattle.memory.specs.declared.Moved.{Moved}
 use Rattle.memory.specs.declared.Read.{Read}
 use Rattle.state.specs.declared.Outcome.TheVariants.{Failed}
 use Rattle.pages.specs.declared.Translation.{Translation}
-use Rattle.lookup.specs.declared.Walked.{Walked}
-use Rattle.lookup.specs.declared.Walked.TheVariants.{Violation, Update as Renew, Complete}
 use Rattle.pages.specs.Pages.{segment_at, page_at, page_word_of, frame_word_of}
 use Rattle.patc.specs.Patc.{put_of, Loaded, load_of}
-use Rattle.lookup.specs.Lookup.{walked_of}
+use Rattle.lookup.specs.Lookup.{Walked, Barred as Violation, Update as Renew, Complete, walked_of}
 use Rattle.course.specs.declared.Course.{Course}
 use Rattle.course.specs.declared.Flight.{Flight}
 use Rattle.course.specs.declared.Stage.TheVariants.{Segment, Page, Update}

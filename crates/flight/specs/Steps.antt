@@ -10,13 +10,9 @@ use Rattle.state.specs.declared.Transaction.{Transaction}
 use Rattle.state.specs.declared.Outcome.{Outcome}
 use Rattle.state.specs.declared.Outcome.TheVariants.{Word, Written, Failed}
 use Rattle.pages.specs.declared.Translation.{Translation}
-use Rattle.lookup.specs.declared.Lookup.{Lookup}
-use Rattle.lookup.specs.declared.Lookup.TheVariants.{Found, Search, Violation}
-use Rattle.lookup.specs.declared.Walked.{Walked}
-use Rattle.lookup.specs.declared.Walked.TheVariants.{Update, Complete, Violation as Barred}
 use Rattle.pages.specs.Pages.{segment_at, page_at, page_word_of, frame_word_of}
 use Rattle.patc.specs.Patc.{put_of as put_entry, Loaded, load_of}
-use Rattle.lookup.specs.Lookup.{place_of, judge_of, walked_of}
+use Rattle.lookup.specs.Lookup.{Lookup, Found, Search, Violation, Walked, Update, Complete, Barred, place_of, judge_of, walked_of}
 use Rattle.course.specs.Course.{no_transaction, slot_of, moved_by}
 use Rattle.flight.specs.Ops.{Got, Shown, Sent, Ops}
 

@@ -5,24 +5,30 @@ pub mod search;
 
 ghost use Rattle.std.specs.Prelude.{◌≡◌, ◌<◌, length};
 ghost use Rattle.course.specs.Next.{cached};
+ghost use Rattle.lookup.specs.Lookup.{judged};
 ghost use Rattle.flight.specs.Begin.{go_of, begin_of};
 
 use course::{Course, Flight};
 use lookup::Lookup;
-use state::{Access, Outcome};
+use state::{Access, Fault, Outcome};
 
 // Goes on with the translation, ends in a fault, or searches the tables.
-fn go(c: Course, next: Lookup, lines: &mut [u32; 1280], cells: &mut [u32; 4096]) -> Flight
+fn go(
+    c: Course,
+    next: Result<Lookup, Fault>,
+    lines: &mut [u32; 1280],
+    cells: &mut [u32; 4096],
+) -> Flight
     requires { c.place < 1024 }
-    ensures { (cached result lines.new cells.new ≡ go_of c next lines.old cells.old) × (result.course.place < 1024) }
+    ensures { (cached result lines.new cells.new ≡ go_of c (judged next) lines.old cells.old) × (result.course.place < 1024) }
 {
     match next {
-        Lookup::Found(t) => {
+        Ok(Lookup::Found(t)) => {
             let d = course::with_translation(c, t);
             cache::enter(d, lines, cells)
         }
-        Lookup::Violation(fault) => course::ended(c, Outcome::Failed(fault)),
-        Lookup::Search(entry) => search::start(c, entry),
+        Ok(Lookup::Search(entry)) => search::start(c, entry),
+        Err(fault) => course::ended(c, Outcome::Failed(fault)),
     }
 }
 

@@ -1,12 +1,14 @@
 // A table search, one descriptor at a time; and the entry that it loads or renews.
 ghost use Rattle.std.specs.Prelude.{◌≡◌, ◌<◌, length};
+ghost use Rattle.lookup.specs.Lookup.{finished};
 ghost use Rattle.flight.specs.Search.{flown, start_of, segment_of, updating_of, loaded_of, walk_of, page_of, update_of};
 
 use course::{Course, Flight, Stage};
 use lookup::Walked;
 use memory::{Moved, Read};
 use pages::Translation;
-use state::Outcome;
+use patc::Slot;
+use state::{Fault, Outcome};
 
 // Wants the segment descriptor; a hit that found M clear names its entry.
 pub fn start(c: Course, entry: usize) -> Flight
@@ -61,33 +63,36 @@ fn loaded(
 {
     let page = pages::tables::page_word(c.access.address, c.access.supervisor);
     let frame = pages::tables::frame_word(c.t);
-    let n = c.entry;
-    if n < 56 {
-        patc::put(patc, n, page, frame);
-        return cache::enter(c, lines, cells);
+    match Slot::new(c.entry) {
+        Some(slot) => {
+            patc::put(patc, slot, page, frame);
+            cache::enter(c, lines, cells)
+        }
+        None => {
+            let pointer = patc::load(patc, c.pointer, page, frame);
+            cache::enter(course::with_pointer(c, pointer), lines, cells)
+        }
     }
-    let pointer = patc::load(patc, c.pointer, page, frame);
-    cache::enter(course::with_pointer(c, pointer), lines, cells)
 }
 
 // What a search does with both descriptors.
 fn walk(
     c: Course,
-    walked: Walked,
+    walked: Result<Walked, Fault>,
     patc: &mut [u32; 112],
     lines: &mut [u32; 1280],
     cells: &mut [u32; 4096],
 ) -> Flight
     requires { c.place < 1024 }
-    ensures { (flown result patc.new lines.new cells.new ≡ walk_of c walked patc.old lines.old cells.old) × (result.course.place < 1024) }
+    ensures { (flown result patc.new lines.new cells.new ≡ walk_of c (finished walked) patc.old lines.old cells.old) × (result.course.place < 1024) }
 {
     match walked {
-        Walked::Violation(fault) => course::ended(c, Outcome::Failed(fault)),
-        Walked::Update(t, descriptor) => updating(c, t, descriptor),
-        Walked::Complete(t) => {
+        Ok(Walked::Update(t, descriptor)) => updating(c, t, descriptor),
+        Ok(Walked::Complete(t)) => {
             let d = course::with_translation(c, t);
             loaded(d, patc, lines, cells)
         }
+        Err(fault) => course::ended(c, Outcome::Failed(fault)),
     }
 }
 

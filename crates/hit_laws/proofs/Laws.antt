@@ -12,11 +12,9 @@ use Rattle.state.specs.declared.FaultPair.{FaultPair}
 use Rattle.state.specs.declared.Registers.{Registers}
 use Rattle.lines.specs.Lines.{hit_of}
 use Rattle.pages.specs.declared.Translation.{Translation}
-use Rattle.lookup.specs.declared.Lookup.{Lookup}
-use Rattle.lookup.specs.declared.Lookup.TheVariants.{Found}
 use Rattle.pages.specs.Pages.{unmapped_of, port_of, block_of, paged_of}
 use Rattle.patc.specs.Patc.{frame_word, entry_of}
-use Rattle.lookup.specs.Lookup.{place_of, guarded_of, entered_of, judge_of}
+use Rattle.lookup.specs.Lookup.{Lookup, Found, place_of, guarded_of, entered_of, judge_of}
 use Rattle.flight.specs.Steps.{Scene, go_of, access_of as steps_of}
 use Rattle.driver.specs.Alone.{Memory, alone}
 use Rattle.registers.specs.Registers.{area_of}

@@ -12,9 +12,8 @@ use Rattle.state.specs.declared.Outcome.TheVariants.{Word, Written}
 use Rattle.lines.specs.Lines.{state_of, tag_word, hit_of, marked, used_at}
 use Rattle.cells.specs.Cells.{word_at, merged_at}
 use Rattle.pages.specs.declared.Translation.{Translation}
-use Rattle.lookup.specs.declared.Lookup.TheVariants.{Found}
 use Rattle.pages.specs.Pages.{protection_of}
-use Rattle.lookup.specs.Lookup.{guarded_of, entered_of}
+use Rattle.lookup.specs.Lookup.{Found, guarded_of, entered_of}
 use Rattle.flight.specs.Steps.{Scene, cache_of, read_of, write_of, opening}
 use Rattle.driver.specs.Alone.{Memory, memory, alone}
 use Rattle.registers.specs.Registers.{with_pointer}

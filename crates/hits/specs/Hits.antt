@@ -1,12 +1,25 @@
 -- An access that only touches a line of the cache: its way there by the area pointer, a port or an entry, and the line that it hits.
-use Rattle.std.specs.Prelude.{ℕ, Bool, false, not, ◌&&◌, ◌||◌, List, eqb, ltb}
+use Rattle.std.specs.Prelude.{ℕ, Bool, true, false, not, ◌&&◌, ◌||◌, List, Option, Some, None, eqb, ltb}
 use Rattle.words.specs.Words.{pick, bit_of}
 use Rattle.lines.specs.Lines.{state_of, tag_word, hit_of}
 use Rattle.pages.specs.declared.Translation.{Translation}
 use Rattle.pages.specs.Pages.{unmapped_of, port_of, block_of, paged_of, protection_of}
 use Rattle.patc.specs.Patc.{frame_word, entry_of}
-use Rattle.hits.specs.declared.Way.{Way}
+use Rattle.hits.specs.declared.Way.{Way as TheWay}
 use Rattle.hits.specs.declared.Hit.{Hit}
+
+-- the way of an access to the cache: its physical address, whether it may touch a line alone, and whether its page is global
+pub record Way : Type 0 where
+  pub address : ℕ
+  pub clear : Bool
+  pub g : Bool
+
+-- a way that is clear, and none otherwise; and back
+abbrev pub clear_way : Way → Option TheWay
+clear_way w = pick w.clear (Some (record { address = w.address; g = w.g })) None
+
+abbrev pub way_by : TheWay → Way
+way_by w = record { address = w.address; clear = true; g = w.g }
 
 -- neither inhibited nor barred, nor a write through the cache
 abbrev pub clear_for : Translation → Bool → Bool → Bool

@@ -5,16 +5,15 @@ ghost use Rattle.std.specs.Prelude.{◌≡◌, ◌<◌, length};
 ghost use Rattle.words.specs.Words.{keep_of};
 ghost use Rattle.lines.specs.Lines.{used_at, marked};
 ghost use Rattle.cells.specs.Cells.{word_at, merged_at};
-ghost use Rattle.hits.specs.Hits.{way_of, page_way_of, no_way, found_of, kept_of, no_hit, hit_by, look_of};
+ghost use Rattle.hits.specs.Hits.{clear_way, way_by, way_of, found_of, kept_of, no_hit, hit_by, look_of};
 
 use pages::Translation;
 
-// The way of an access to the cache: its physical address, whether it may touch a line alone, and whether its page is global.
+// The way of an access to the cache, where it may touch a line alone: its physical address, and whether its page is global.
 #[derive(Clone, Copy)]
-pub struct Way {
-    pub address: u32,
-    pub clear: bool,
-    pub g: bool,
+struct Way {
+    address: u32,
+    g: bool,
 }
 
 // Where an access hits: the place of its line, 1024 for none, and the physical address.
@@ -24,31 +23,23 @@ pub struct Hit {
     pub address: u32,
 }
 
-// Clear is the way of an access that is neither inhibited nor barred, nor a write through the cache.
-fn way_of(t: Translation, supervisor: bool, write: bool) -> Way
-    ensures { result ≡ way_of t supervisor write }
+// The way is clear of an access that is neither inhibited nor barred, nor a write through the cache.
+#[tactic(auto, unfolding(crate::specs::Hits::way_of))]
+fn way_of(t: Translation, supervisor: bool, write: bool) -> Option<Way>
+    ensures { result ≡ clear_way (way_of t supervisor write) }
 {
-    let barred = pages::protection(t, supervisor, write);
-    Way {
-        address: t.address,
-        clear: !(t.ci | (write & t.wt)) & (barred == 0),
-        g: t.g,
+    let permitted = pages::protection(t, supervisor, write).is_ok();
+    let clear = !(t.ci | (write & t.wt)) & permitted;
+    if clear {
+        return Some(Way {
+            address: t.address,
+            g: t.g,
+        });
     }
+    None
 }
 
-// .. by an entry: nor a write that finds M clear.
-fn page_way(t: Translation, supervisor: bool, write: bool) -> Way
-    ensures { result ≡ page_way_of t supervisor write }
-{
-    let barred = pages::protection(t, supervisor, write);
-    Way {
-        address: t.address,
-        clear: !(t.ci | (write & t.wt)) & (barred == 0) & !(write & !t.m),
-        g: t.g,
-    }
-}
-
-// The way of an access that needs no search.
+// The way of an access that needs no search, as a write does that finds M clear.
 fn found(
     area: u32,
     ports: &[u32],
@@ -56,29 +47,21 @@ fn found(
     address: u32,
     supervisor: bool,
     write: bool,
-) -> Way
-    ensures { result ≡ found_of area ports.now patc.now address supervisor write }
+) -> Option<Way>
+    ensures { result ≡ clear_way (found_of area ports.now patc.now address supervisor write) }
 {
     if !words::bit(area, 0) {
         return way_of(pages::unmapped(area, address), supervisor, write);
     }
-    let port = pages::port(ports, address, supervisor);
-    if words::bit(port, 0) {
+    if let Some(port) = pages::port(ports, address, supervisor) {
         return way_of(pages::block(port, address), supervisor, write);
     }
-    let n = patc::entry(patc, address, supervisor);
-    if n < 56 {
-        return page_way(
-            pages::paged(patc::frame(patc, n), address),
-            supervisor,
-            write,
-        );
+    let slot = patc::entry(patc, address, supervisor)?;
+    let t = pages::paged(patc::frame(patc, slot), address);
+    if write & !t.m {
+        return None;
     }
-    Way {
-        address: 0,
-        clear: false,
-        g: false,
-    }
+    way_of(t, supervisor, write)
 }
 
 // Does a write to the line at a place touch the line only? Not where there is none, nor a shared one of a global page.
@@ -103,11 +86,8 @@ fn none() -> Hit
 
 // The line at the end of a way.
 fn line_of(lines: &[u32; 1280], way: Way, write: bool) -> Hit
-    ensures { result ≡ hit_by lines.now way write }
+    ensures { result ≡ hit_by lines.now (way_by way) write }
 {
-    if !way.clear {
-        return none();
-    }
     let address = way.address;
     let place = lines::hit(lines, address);
     if write & !kept(lines, way.g, place) {
@@ -128,8 +108,10 @@ pub fn look(
 ) -> Hit
     ensures { result ≡ look_of lines.now area ports.now patc.now address supervisor write }
 {
-    let way = found(area, ports, patc, address, supervisor, write);
-    line_of(lines, way, write)
+    match found(area, ports, patc, address, supervisor, write) {
+        Some(way) => line_of(lines, way, write),
+        None => none(),
+    }
 }
 
 // The word that is hit, and the line is used.

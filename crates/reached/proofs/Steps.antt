@@ -21,15 +21,10 @@ use Rattle.state.specs.declared.Transaction.{Transaction}
 use Rattle.state.specs.declared.Outcome.{Outcome}
 use Rattle.state.specs.declared.Outcome.TheVariants.{Idle, Word, Written, Failed}
 use Rattle.pages.specs.declared.Translation.{Translation}
-use Rattle.lookup.specs.declared.Place.{Place}
-use Rattle.lookup.specs.declared.Lookup.{Lookup}
-use Rattle.lookup.specs.declared.Lookup.TheVariants.{Found, Search, Violation}
-use Rattle.lookup.specs.declared.Walked.{Walked}
-use Rattle.lookup.specs.declared.Walked.TheVariants.{Update, Complete, Violation as Barred}
 use Rattle.pages.specs.Pages.{unmapped_of, port_of, block_of, paged_of, protection_of, segment_at, page_at, combined_of, stale_of, renewed_of, page_word_of, frame_word_of}
 use Rattle.patc.specs.Patc.{frame_word, entry_of, put_of as put_entry}
 use Rattle.patc.specs.Laws.{entry_le}
-use Rattle.lookup.specs.Lookup.{place_of, guarded_of, entered_of, judge_of, walked_of}
+use Rattle.lookup.specs.Lookup.{Place, Lookup, Found, Search, Violation, Walked, Update, Complete, Barred, place_of, guarded_of, entered_of, judge_of, walked_of}
 use Rattle.flight.specs.Steps.{Scene, Ended, ended, noted, with_lines, with_cache, with_patc, moves, store_of, read_of, fill_of, copyback_of, miss_at, write_of, single_x, single_of, inhibited_of, cache_of, walks, loaded_of, finish_of, page_of, search_of, go_of, access_of}
 use Rattle.driver.specs.Alone.{Memory, memory, alone}
 use Rattle.fields.specs.Fields.{Words}

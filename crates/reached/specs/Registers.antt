@@ -13,11 +13,10 @@ use Rattle.state.specs.declared.Registers.{Registers}
 use Rattle.state.specs.declared.FaultPair.{FaultPair}
 use Rattle.state.specs.Own.{own_scr, own_ssr, own_sctr, own_area, own_ssr_lem, own_sctr_lem, own_status_lem, own_area_lem, ssr_fields}
 use Rattle.pages.specs.declared.Translation.{Translation}
-use Rattle.lookup.specs.declared.Place.{Place}
 use Rattle.pages.specs.Pages.{unmapped_of, port_of, block_of, paged_of, segment_at, page_at, combined_of}
 use Rattle.patc.specs.Patc.{entry_of, frame_word}
 use Rattle.pages.specs.Laws.{flag_bit}
-use Rattle.lookup.specs.Lookup.{place_of}
+use Rattle.lookup.specs.Lookup.{Place, place_of}
 use Rattle.registers.specs.Registers.{Ran, area_of, with_scr, with_ssr, with_sar, with_sctr, with_sapr, with_uapr, with_pointer, with_port, set_fault_of, set_port_of, set_register_of}
 use Rattle.commands.specs.Probe.{ce_of, status_of, found_of, missing_of, failed_of, page_of, tables_of, placed_of, probe_of}
 use Rattle.commands.specs.Commands.{flushed_of}

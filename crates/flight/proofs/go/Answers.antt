@@ -2,14 +2,14 @@ use borrow.Author.Rules.{rules}
 use Rattle.flight.specs.Begin.{go_of}
 use Rattle.flight.proofs.go.Goals as goal
 
-pub returns-in-Found : goal.returns-in-Found
+pub returns-in-Ok-Found : goal.returns-in-Ok-Found
 unfolding go_of
-returns-in-Found c = (rw (c.enter.ensures.0, c.with_translation-d.ensures.0, c.in-Found.is), search rules)
+returns-in-Ok-Found c = (rw (c.enter.ensures.0, c.with_translation-d.ensures.0) (search rules), search rules)
 
-pub returns-in-Violation : goal.returns-in-Violation
+pub returns-in-Ok-Search : goal.returns-in-Ok-Search
 unfolding go_of
-returns-in-Violation c = (rw (c.ended.ensures.0, c.in-Violation.is), search rules)
+returns-in-Ok-Search c = (rw (c.start.ensures.0) (search rules), search rules)
 
-pub returns-in-Search : goal.returns-in-Search
+pub returns-in-Err : goal.returns-in-Err
 unfolding go_of
-returns-in-Search c = (rw (c.start.ensures.0, c.in-Search.is), search rules)
+returns-in-Err c = (rw (c.ended.ensures.0, c.in-Err.is), search rules)

@@ -1,19 +1,33 @@
+use mathlib.Core.Path.{sym, ◌∙◌}
+use Rattle.pages.specs.Laws.{hits_port, no_port}
+use Rattle.patc.specs.Laws.{slot_some, slot_none}
 use Rattle.hits.specs.Hits.{found_of}
-use borrow.Author.Tests.{lt-ltb, le-ltb}
+use Rattle.hits.specs.Laws.{page_way, no_page_way}
 use Rattle.hits.proofs.found.Goals as goal
 
 pub returns-then-not-bit : goal.returns-then-not-bit
 unfolding found_of
-returns-then-not-bit c = rw (c.way_of.ensures, c.unmapped.ensures, ← c.bit.ensures, c.if-not-bit.true-raw)
+returns-then-not-bit c = rw (c.way_of.ensures, c.unmapped.ensures, ← c.bit.ensures, c.if-not-bit.true)
 
-pub returns-then-bit : goal.returns-then-bit
+pub returns-in-Some : goal.returns-in-Some
 unfolding found_of
-returns-then-bit c = rw (c.way_of-then-bit.ensures, c.block.ensures, ← c.bit.ensures, c.if-not-bit.false-raw, ← c.port-port.ensures, ← c.bit-2.ensures, c.if-bit.true)
+returns-in-Some c =
+    let p = hits_port _ c.in-Some.port (sym c.port.ensures ∙ c.in-Some.is) in
+    rw (c.way_of-in-Some.ensures, c.block.ensures, ← c.bit.ensures, c.if-not-bit.false, p.0, p.1)
 
-pub returns-then-n-lt56 : goal.returns-then-n-lt56
+pub returns-in_err-slot : goal.returns-in_err-slot
 unfolding found_of
-returns-then-n-lt56 c = rw (c.page_way.ensures, c.paged.ensures, c.frame.ensures, ← c.bit.ensures, c.if-not-bit.false-raw, ← c.port-port.ensures, ← c.bit-2.ensures, c.if-bit.false, ← c.entry-n.ensures.0, lt-ltb _ _ c.if-n-lt56.true)
+returns-in_err-slot c =
+    rw (c.from_residual.ensures, ← c.bit.ensures, c.if-not-bit.false, no_port _ (sym c.port.ensures ∙ c.in_default.is), slot_none _ (sym c.entry.ensures ∙ c.in_err-slot.was))
+
+pub returns-then-write-t : goal.returns-then-write-t
+unfolding found_of
+returns-then-write-t c =
+    let s = slot_some _ c.in_ok-slot.slot (sym c.entry.ensures ∙ c.in_ok-slot.was) in
+    rw (← c.bit.ensures, c.if-not-bit.false, no_port _ (sym c.port.ensures ∙ c.in_default.is), s.0, s.1, ← c.frame.ensures, ← c.paged-t.ensures, no_page_way _ _ _ c.if-write-t.true)
 
 pub returns : goal.returns
 unfolding found_of
-returns c = rw (← c.bit.ensures, c.if-not-bit.false-raw, ← c.port-port.ensures, ← c.bit-2.ensures, c.if-bit.false, ← c.entry-n.ensures.0, le-ltb _ _ c.if-n-lt56.false)
+returns c =
+    let s = slot_some _ c.in_ok-slot.slot (sym c.entry.ensures ∙ c.in_ok-slot.was) in
+    rw (← c.bit.ensures, c.if-not-bit.false, no_port _ (sym c.port.ensures ∙ c.in_default.is), s.0, s.1, ← c.frame.ensures, ← c.paged-t.ensures, page_way _ _ _ c.if-write-t.false) c.way_of-2.ensures

@@ -2,14 +2,14 @@ use borrow.Author.Rules.{rules}
 use Rattle.flight.specs.Search.{walk_of}
 use Rattle.flight.proofs.search.walk.Goals as goal
 
-pub returns-in-Violation : goal.returns-in-Violation
+pub returns-in-Ok-Update : goal.returns-in-Ok-Update
 unfolding walk_of
-returns-in-Violation c = (rw (c.ended.ensures.0, c.in-Violation.is), search rules)
+returns-in-Ok-Update c = (rw (c.updating.ensures.0) (search rules), search rules)
 
-pub returns-in-Update : goal.returns-in-Update
+pub returns-in-Ok-Complete : goal.returns-in-Ok-Complete
 unfolding walk_of
-returns-in-Update c = (rw (c.updating.ensures.0, c.in-Update.is), search rules)
+returns-in-Ok-Complete c = (rw (c.loaded.ensures.0, c.with_translation-d.ensures.0) (search rules), search rules)
 
-pub returns-in-Complete : goal.returns-in-Complete
+pub returns-in-Err : goal.returns-in-Err
 unfolding walk_of
-returns-in-Complete c = (rw (c.loaded.ensures.0, c.with_translation-d.ensures.0, c.in-Complete.is), search rules)
+returns-in-Err c = (rw (c.ended.ensures.0, c.in-Err.is), search rules)
