@@ -34,7 +34,6 @@ pub fn look(
 ) -> Hit
     ensures { (result ≡ quick_of unit.now patc.now lines.now address kind enables) × (length unit.now ≡ 16) }
 {
-    let all: &[u32] = unit;
     if !plain(address, kind, enables) {
         return Hit {
             place: 1024,
@@ -46,7 +45,7 @@ pub fn look(
     hits::look(
         lines,
         area(unit, supervisor),
-        &all[8..16],
+        &unit[8..],
         patc,
         address,
         supervisor,
@@ -55,12 +54,13 @@ pub fn look(
 }
 
 // A reply without a transaction: 1 and the word that was read, or 2 for one that was written.
+#[tactic(auto, unfolding(crate::specs::Quick::plain_reply))]
 fn put_reply(reply: &mut [u32; 24], case: u32, value: u32)
     ensures { reply.new ≡ plain_reply case value }
 {
-    *reply = [
-        case, value, 0, 0, 0, 0, 0, 0, 0, 0, 0, 0, 0, 0, 0, 0, 0, 0, 0, 0, 0, 0, 0, 0,
-    ];
+    *reply = [0; 24];
+    reply[0] = case;
+    reply[1] = value;
 }
 
 // The access is answered: the line is read or written, and used.
