@@ -62,19 +62,17 @@ fn descriptor(u: &mut Registers, at: u32, words: &mut u32, ram: &[u32], rom: &[u
     ensures word { result ≡ valid_of (read_of ram.now rom.now at) }
     ensures ran { ran_of u.new words.new ≡ read_by u.old at words.old (read_of ram.now rom.now at) (ran_of u.old (words.old + 1)) }
 {
-    let word = match memory::read_word(ram, rom, at) {
-        Ok(word) => word,
-        Err(e) => {
-            end(u, BUS_ERROR, e.address);
-            return None;
+    match memory::read_word(ram, rom, at) {
+        Ok(word) => {
+            *words += 1;
+            if words::bit(word, 0) {
+                return Some(word);
+            }
+            end(u, 0, at);
         }
-    };
-    *words += 1;
-    if !words::bit(word, 0) {
-        end(u, 0, at);
-        return None;
+        Err(error) => end(u, BUS_ERROR, error.address),
     }
-    Some(word)
+    None
 }
 
 // The tables: the words moved are the descriptors read.
