@@ -1,11 +1,12 @@
 -- What a flight wants of memory for the cache, and a read that a line ends.
-use Rattle.std.specs.Prelude.{ℕ, ◌*◌, ◌/◌, true, false, ◌||◌, List}
+use Rattle.std.specs.Prelude.{ℕ, ◌*◌, ◌/◌, Bool, true, false, ◌||◌, List}
 use Rattle.words.specs.Words.{keep_of}
 use Rattle.lines.specs.Lines.{line_address, used_at}
 use Rattle.cells.specs.Cells.{word_at}
 use Rattle.state.specs.declared.Outcome.TheVariants.{Word}
 use Rattle.course.specs.declared.Course.{Course}
 use Rattle.course.specs.declared.Flight.{Flight}
+use Rattle.course.specs.declared.Stage.{Stage}
 use Rattle.course.specs.declared.Stage.TheVariants.{Drop, Back, Fill, Store, Single}
 use Rattle.course.specs.Course.{with_want, wanting_of, ended_of, carried_of}
 
@@ -40,6 +41,10 @@ storing_of c = wanting_of (with_want c (carried_of c true c.t.address 1 c.t.g tr
 -- of a line, its first address
 unfoldable pub filling_of : Course → Flight
 filling_of c = wanting_of (with_want c (carried_of c false (c.t.address / 16 * 16) 4 c.t.g c.access.write false)) Fill
+
+-- a line copied back, and what it is copied back for
+abbrev pub copying_of : Course → ℕ → Bool → Stage → Flight
+copying_of c word g stage = wanting_of (with_want c (carried_of c true (line_address c.place word) 4 g true false)) stage
 
 unfoldable pub backing_of : Course → ℕ → Flight
 backing_of c word = wanting_of (with_want c (carried_of c true (line_address c.place word) 4 false true false)) Back

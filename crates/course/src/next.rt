@@ -1,6 +1,6 @@
 // What a flight wants of memory for the cache, and a read that a line ends.
 ghost use Rattle.std.specs.Prelude.{◌≡◌};
-ghost use Rattle.course.specs.Next.{lined, single_of, storing_of, filling_of, backing_of, dropping_of, read_hit_of};
+ghost use Rattle.course.specs.Next.{lined, single_of, storing_of, filling_of, copying_of, backing_of, dropping_of, read_hit_of};
 
 use crate::{Course, Flight, Stage};
 use state::{Outcome, Place};
@@ -34,14 +34,21 @@ pub fn filling(c: Course) -> Flight
     crate::wanting(c, t, Stage::Fill)
 }
 
+// Wants the line at the course's place copied back.
+fn copying(c: Course, word: u32, g: bool, stage: Stage) -> Flight
+    ensures { result ≡ copying_of c word g stage }
+{
+    let at = lines::line_address(c.place, word);
+    let t = crate::carried(&c, true, at, 4, g, true, false);
+    crate::wanting(c, t, stage)
+}
+
 // Wants a modified victim copied back; G is 0 for it.
 #[tactic(auto, unfolding(crate::specs::Next::backing_of))]
 pub fn backing(c: Course, word: u32) -> Flight
     ensures { result ≡ backing_of c word }
 {
-    let at = lines::line_address(c.place, word);
-    let t = crate::carried(&c, true, at, 4, false, true, false);
-    crate::wanting(c, t, Stage::Back)
+    copying(c, word, false, Stage::Back)
 }
 
 // Wants a modified line that an inhibited access hit copied back.
@@ -49,9 +56,8 @@ pub fn backing(c: Course, word: u32) -> Flight
 pub fn dropping(c: Course, word: u32) -> Flight
     ensures { result ≡ dropping_of c word }
 {
-    let at = lines::line_address(c.place, word);
-    let t = crate::carried(&c, true, at, 4, c.t.g, true, false);
-    crate::wanting(c, t, Stage::Drop)
+    let g = c.t.g;
+    copying(c, word, g, Stage::Drop)
 }
 
 // The word that a line holds, of which only the enabled bytes are kept; the line is used.

@@ -2,30 +2,20 @@
 #![tactic(auto)]
 
 ghost use Rattle.std.specs.Prelude.{◌≡◌};
-ghost use Rattle.memory.specs.Memory.{part_of, shown_of, write_word_of, write_line_of};
+ghost use Rattle.memory.specs.Memory.{moved_in, wrote, part_of, shown_of, write_word_of, write_line_of};
 ghost use Rattle.cells.specs.Cells.{line_words};
-ghost use Rattle.course.specs.Next.{lined, cached};
-ghost use Rattle.after.specs.After.{drop_of, back_of, fill_of, store_of};
+ghost use Rattle.course.specs.Next.{cached};
+ghost use Rattle.after.specs.After.{fill_of, store_of};
 ghost use Rattle.transfers.specs.Transfers.{flown_to, single_by, carried, transfer_of};
 
 use course::{Course, Flight, Stage};
+use memory::BusError;
 
-fn drop(c: Course, lines: &mut [u32; 1280], cells: &[u32; 4096], ram: &mut [u32]) -> Flight
-    ensures flight { lined result lines.new ≡ drop_of c lines.old (write_line_of ram.old c.want.address (line_words cells.now c.place)).moved }
-    ensures ram { ram.new ≡ (write_line_of ram.old c.want.address (line_words cells.now c.place)).ram }
+// The line at the course's place copied back.
+fn copied_back(c: &Course, cells: &[u32; 4096], ram: &mut [u32]) -> Result<(), BusError>
+    ensures { wrote (moved_in 4 result) ram.new ≡ write_line_of ram.old c.now.want.address (line_words cells.now c.now.place) }
 {
-    let part = cells::line_words(cells, c.place);
-    let moved = memory::write_line(ram, c.want.address, part);
-    after::take_drop(c, lines, moved)
-}
-
-fn back(c: Course, cells: &[u32; 4096], ram: &mut [u32]) -> Flight
-    ensures flight { result ≡ back_of c (write_line_of ram.old c.want.address (line_words cells.now c.place)).moved }
-    ensures ram { ram.new ≡ (write_line_of ram.old c.want.address (line_words cells.now c.place)).ram }
-{
-    let part = cells::line_words(cells, c.place);
-    let moved = memory::write_line(ram, c.want.address, part);
-    after::take_back(c, moved)
+    memory::write_line(ram, c.want.address, cells::line_words(cells, c.place))
 }
 
 fn fill<'a>(
@@ -76,8 +66,8 @@ pub fn transfer(
 {
     let c = f.course;
     match f.stage {
-        Stage::Drop => drop(c, lines, cells, ram),
-        Stage::Back => back(c, cells, ram),
+        Stage::Drop => after::take_drop(c, lines, copied_back(&c, cells, ram)),
+        Stage::Back => after::take_back(c, copied_back(&c, cells, ram)),
         Stage::Fill => fill(c, lines, cells, ram, rom),
         Stage::Store => store(c, lines, cells, ram),
         Stage::Single => single(c, ram, rom),
