@@ -53,15 +53,7 @@ pub struct Flight {
 pub fn no_transaction() -> Transaction
     ensures { result ≡ no_transaction }
 {
-    Transaction {
-        write: false,
-        address: 0,
-        words: 0,
-        g: false,
-        im: false,
-        lk: false,
-        ci: false,
-    }
+    Transaction::default()
 }
 
 #[tactic(auto, unfolding(crate::specs::Course::fresh_of))]
@@ -69,16 +61,6 @@ pub fn fresh(access: Access, area: u32, pointer: u32) -> Course
     ensures { result ≡ fresh_of access area pointer }
 {
     let none = no_transaction();
-    let t = Translation {
-        address: 0,
-        wt: false,
-        sp: false,
-        g: false,
-        ci: false,
-        m: false,
-        u: false,
-        wp: false,
-    };
     Course {
         access,
         want: none,
@@ -88,7 +70,7 @@ pub fn fresh(access: Access, area: u32, pointer: u32) -> Course
         entry: 56,
         descriptor: 0,
         pointer,
-        t,
+        t: Translation::default(),
         place: Place::of(0, 0),
     }
 }

@@ -7,7 +7,7 @@ ghost use Rattle.std.specs.Prelude.{◌≡◌, ◌<◌, eqb, find};
 ghost use Rattle.pages.specs.Pages.{port_key, block_key, port_of, valid_port, block_of, unmapped_of, paged_of, protection_of, violation_code, protection_code};
 
 // A physical address with its attributes.
-#[derive(Clone, Copy)]
+#[derive(Clone, Copy, Default)]
 pub struct Translation {
     pub address: u32,
     pub wt: bool,

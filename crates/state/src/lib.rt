@@ -61,7 +61,7 @@ pub enum Outcome {
 }
 
 // One M bus transaction: read or write, its address (of a line, its first), the words moved, G, IM, LK and CI.
-#[derive(Clone, Copy)]
+#[derive(Clone, Copy, Default)]
 pub struct Transaction {
     pub write: bool,
     pub address: u32,
