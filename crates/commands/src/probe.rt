@@ -63,10 +63,10 @@ fn descriptor(u: &mut Registers, at: u32, words: &mut u32, ram: &[u32], rom: &[u
     ensures ran { ran_of u.new words.new ≡ read_by u.old at words.old (read_of ram.now rom.now at) (ran_of u.old (words.old + 1)) }
 {
     match memory::read_word(ram, rom, at) {
-        Ok(word) => {
+        Ok(read) => {
             *words += 1;
-            if words::bit(word, 0) {
-                return Some(word);
+            if words::bit(read.moved, 0) {
+                return Some(read.moved);
             }
             end(u, 0, at);
         }

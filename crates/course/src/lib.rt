@@ -122,11 +122,11 @@ pub fn failed(c: Course, code: u32, address: u32) -> Flight
     ended(c, Outcome::Failed(Fault { code, address }))
 }
 
-// The wanted transaction met a bus error: it is listed without words, and the access ends in fault 3.
+// The wanted transaction met a bus error: it is listed, and the access ends in fault 3.
 pub fn bus_error(c: Course, e: BusError) -> Flight
-    ensures { result ≡ failed_of (listed_of c (moved_of 0)) 3 e.address }
+    ensures { result ≡ failed_of (listed_of c (moved_of e.words)) 3 e.address }
 {
-    failed(listed(c, 0), 3, e.address)
+    failed(listed(c, e.words), 3, e.address)
 }
 
 // A transaction of a search: G is the area's, CI 0.

@@ -1,12 +1,12 @@
 // A table search, one descriptor at a time; and the entry that it loads or renews.
-ghost use Rattle.std.specs.Prelude.{◌≡◌};
-ghost use Rattle.memory.specs.Memory.{word_read, moved_in, read_in};
+ghost use Rattle.std.specs.Prelude.{◌≡◌, Ok};
+ghost use Rattle.memory.specs.Memory.{moved_in, read_in};
 ghost use Rattle.lookup.specs.Lookup.{finished};
 ghost use Rattle.flight.specs.Search.{flown, start_of, segment_of, updating_of, loaded_of, walk_of, page_of, update_of};
 
 use course::{Course, Flight, Stage};
 use lookup::Walked;
-use memory::BusError;
+use memory::{BusError, Done};
 use pages::Translation;
 use patc::Slot;
 use state::{Fault, Outcome};
@@ -24,11 +24,12 @@ pub fn start(c: Course, entry: usize) -> Flight
 
 // The segment descriptor, read: V clear is fault 4.
 #[tactic(auto, unfolding(crate::specs::Search::segment_of, course::specs::Course::listed_of, course::specs::Course::with_descriptor, course::specs::Course::searched_of))]
-fn segment(c: Course, descriptor: u32) -> Flight
-    ensures { result ≡ segment_of c (word_read descriptor) }
+fn segment(c: Course, read: Done<u32>) -> Flight
+    ensures { result ≡ segment_of c (read_in (Ok read)) }
 {
     let here = c.want.address;
-    let listed = course::listed(c, 1);
+    let descriptor = read.moved;
+    let listed = course::listed(c, read.words);
     if !words::bit(descriptor, 0) {
         return course::failed(listed, 4, here);
     }
@@ -43,11 +44,11 @@ fn segment(c: Course, descriptor: u32) -> Flight
 
 // After the segment descriptor: the page descriptor.
 #[tactic(auto, unfolding(crate::specs::Search::segment_of, course::specs::Course::listed_of))]
-pub fn take_segment(c: Course, read: Result<u32, BusError>) -> Flight
+pub fn take_segment(c: Course, read: Result<Done<u32>, BusError>) -> Flight
     ensures { result ≡ segment_of c (read_in read) }
 {
     match read {
-        Ok(descriptor) => segment(c, descriptor),
+        Ok(done) => segment(c, done),
         Err(e) => course::bus_error(c, e),
     }
 }
@@ -111,12 +112,13 @@ fn page(
     patc: &mut [u32; 112],
     lines: &mut [u32; 1280],
     cells: &mut [u32; 4096],
-    page: u32,
+    read: Done<u32>,
 ) -> Flight
-    ensures { flown result patc.new lines.new cells.new ≡ page_of c patc.old lines.old cells.old (word_read page) }
+    ensures { flown result patc.new lines.new cells.new ≡ page_of c patc.old lines.old cells.old (read_in (Ok read)) }
 {
     let here = c.want.address;
-    let d = course::listed(c, 1);
+    let page = read.moved;
+    let d = course::listed(c, read.words);
     if !words::bit(page, 0) {
         return course::failed(d, 5, here);
     }
@@ -132,12 +134,12 @@ pub fn take_page(
     patc: &mut [u32; 112],
     lines: &mut [u32; 1280],
     cells: &mut [u32; 4096],
-    read: Result<u32, BusError>,
+    read: Result<Done<u32>, BusError>,
 ) -> Flight
     ensures { flown result patc.new lines.new cells.new ≡ page_of c patc.old lines.old cells.old (read_in read) }
 {
     match read {
-        Ok(descriptor) => page(c, patc, lines, cells, descriptor),
+        Ok(done) => page(c, patc, lines, cells, done),
         Err(e) => course::bus_error(c, e),
     }
 }
@@ -149,12 +151,12 @@ pub fn take_update(
     patc: &mut [u32; 112],
     lines: &mut [u32; 1280],
     cells: &mut [u32; 4096],
-    moved: Result<(), BusError>,
+    moved: Result<Done<()>, BusError>,
 ) -> Flight
-    ensures { flown result patc.new lines.new cells.new ≡ update_of c patc.old lines.old cells.old (moved_in 1 moved) }
+    ensures { flown result patc.new lines.new cells.new ≡ update_of c patc.old lines.old cells.old (moved_in moved) }
 {
     match moved {
-        Ok(()) => loaded(course::listed(c, 1), patc, lines, cells),
+        Ok(done) => loaded(course::listed(c, done.words), patc, lines, cells),
         Err(e) => course::bus_error(c, e),
     }
 }

@@ -1,7 +1,7 @@
 // The cache's directory: 256 sets of 4 lines. A place is 4 x set + number, 0 to 1023.
 #![tactic(auto)]
 
-ghost use Rattle.std.specs.Prelude.{ℕ, ◌≡◌, ◌*◌, ◌<◌, unwrap_or};
+ghost use Rattle.std.specs.Prelude.{ℕ, ◌≡◌, ◌*◌, ◌<◌, ◌≤◌, length, unwrap_or};
 ghost use Rattle.lines.specs.Lines.{vv_of, set_of, tag_of, tag_at, code_at, tag_word, tag_words, state_of, valid, modified, matches, line_address, lowest_of, hit_of, victim_of, with_state, marked, tagged, filled_of, used_at};
 ghost use Rattle.memory.specs.Memory.{put_of};
 
@@ -179,8 +179,9 @@ pub fn fill(
     cells: &mut [u32; 4096],
     p: Place,
     address: u32,
-    part: &[u32; 4],
+    part: &[u32],
 )
+    requires { 4 ≤ length part.now }
     ensures { (lines.new ≡ filled_of lines.old p address) × (cells.new ≡ put_of cells.old (p * 4) part.now) }
 {
     memory::put(cells, p.index() * 4, part);

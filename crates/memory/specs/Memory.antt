@@ -2,6 +2,7 @@
 use Rattle.std.specs.Prelude.{ℕ, ◌+◌, ◌-◌, ◌*◌, ◌/◌, ◌%◌, Bool, true, false, ◌&&◌, List, [], length, get_or, set, take, drop, eqb, ltb, leb, Result, Ok, Err}
 use Rattle.std.proofs.Common.{Bor}
 use Rattle.words.specs.Words.{pick, merge_of}
+use Rattle.memory.specs.declared.Done.{Done}
 use Rattle.memory.specs.declared.BusError.{BusError}
 
 -- an area's length: a multiple of 4, up to a limit
@@ -60,9 +61,6 @@ part_of ram rom address =
 unfoldable pub shown_of : List ℕ → ℕ → Moved
 shown_of part address = pick (ltb (length part) 4) (failed_of (address / 16 * 16)) (moved_of 4)
 
-abbrev pub word_read : ℕ → Read
-word_read word = record { moved = moved_of 1; word = word }
-
 abbrev pub unread_of : ℕ → Read
 unread_of address = record { moved = failed_of address; word = 0 }
 
@@ -75,17 +73,17 @@ read_of ram rom address =
     (record { moved = moved_of 1; word = get_or rom (ram_place address - rom_word) 0 })
     (unread_of address))
 
--- the same of what the code answers: a transaction of n words, a word read, a line shown
-abbrev pub moved_in : {A : Type 0} → ℕ → Result A BusError → Moved
-moved_in n (Ok x) = moved_of n
-moved_in n (Err e) = failed_of e.address
+-- the same of what the code answers: of any transaction, of a word read, of a line shown
+abbrev pub moved_in : {A : Type 0} → Result (Done A) BusError → Moved
+moved_in (Ok d) = moved_of d.words
+moved_in (Err e) = record { ok = false; words = e.words; failing = e.address }
 
-abbrev pub read_in : Result ℕ BusError → Read
-read_in (Ok word) = word_read word
-read_in (Err e) = unread_of e.address
+abbrev pub read_in : Result (Done ℕ) BusError → Read
+read_in (Ok d) = record { moved = moved_of d.words; word = d.moved }
+read_in (Err e) = record { moved = record { ok = false; words = e.words; failing = e.address }; word = 0 }
 
-abbrev pub part_in : Result (Bor (List ℕ)) BusError → List ℕ
-part_in (Ok part) = part.now
+abbrev pub part_in : Result (Done (Bor (List ℕ))) BusError → List ℕ
+part_in (Ok d) = d.moved.now
 part_in (Err e) = []
 
 -- what a write moved, and RAM after it

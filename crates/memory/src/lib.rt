@@ -7,9 +7,17 @@ ghost use Rattle.memory.specs.Memory.{is_area, ram_rule, rom_rule, ram_place, ra
 // ROM's first word, FFE00000 / 4.
 const ROM: usize = 1073217536;
 
-// A transaction that ended in a bus error, and the address that failed.
+// A transaction that ended well: the words to list, and what was moved.
+#[derive(Clone, Copy)]
+pub struct Done<T> {
+    pub words: u8,
+    pub moved: T,
+}
+
+// A transaction that ended in a bus error: the words to list, and the address that failed.
 #[derive(Clone, Copy)]
 pub struct BusError {
+    pub words: u8,
     pub address: u32,
 }
 
@@ -48,13 +56,18 @@ fn ram_line(address: u32) -> usize
     (address / 16) as usize * 4
 }
 
-// A bus error at the first word of an address's line.
-fn line_error(address: u32) -> BusError
-    ensures { result.address ≡ address / 16 * 16 }
+// A bus error that moved no word.
+fn bus_error(address: u32) -> BusError
+    ensures { (result.words ≡ 0) × (result.address ≡ address) }
 {
-    BusError {
-        address: address / 16 * 16,
-    }
+    BusError { words: 0, address }
+}
+
+// .. at the first word of an address's line.
+fn line_error(address: u32) -> BusError
+    ensures { (result.words ≡ 0) × (result.address ≡ address / 16 * 16) }
+{
+    bus_error(address / 16 * 16)
 }
 
 // The four words from a place on.
@@ -67,52 +80,67 @@ fn four(words: &[u32], at: usize) -> &[u32; 4]
 
 // The line that holds an address: its four words where they stand.
 #[tactic(auto, unfolding(crate::specs::Memory::part_of, crate::specs::Memory::shown_of))]
-pub fn line<'a>(ram: &'a [u32], rom: &'a [u32], address: u32) -> Result<&'a [u32; 4], BusError>
+pub fn line<'a>(ram: &'a [u32], rom: &'a [u32], address: u32) -> Result<Done<&'a [u32; 4]>, BusError>
     ensures part { part_in result ≡ part_of ram.now rom.now address }
-    ensures moved { moved_in 4 result ≡ shown_of (part_of ram.now rom.now address) address }
+    ensures moved { moved_in result ≡ shown_of (part_of ram.now rom.now address) address }
 {
     let at = ram_line(address);
     if at + 4 <= ram.len() {
-        return Ok(four(ram, at));
+        return Ok(Done {
+            words: 4,
+            moved: four(ram, at),
+        });
     }
     if ROM <= at && at - ROM + 4 <= rom.len() {
-        return Ok(four(rom, at - ROM));
+        return Ok(Done {
+            words: 4,
+            moved: four(rom, at - ROM),
+        });
     }
     Err(line_error(address))
 }
 
 // One word read.
 #[tactic(auto, unfolding(crate::specs::Memory::read_of))]
-pub fn read_word(ram: &[u32], rom: &[u32], address: u32) -> Result<u32, BusError>
+pub fn read_word(ram: &[u32], rom: &[u32], address: u32) -> Result<Done<u32>, BusError>
     ensures { read_in result ≡ read_of ram.now rom.now address }
 {
     let at = ram_place(address);
     if at < ram.len() {
-        return Ok(ram[at]);
+        return Ok(Done {
+            words: 1,
+            moved: ram[at],
+        });
     }
     if ROM <= at && at - ROM < rom.len() {
-        return Ok(rom[at - ROM]);
+        return Ok(Done {
+            words: 1,
+            moved: rom[at - ROM],
+        });
     }
-    Err(BusError { address })
+    Err(bus_error(address))
 }
 
 // One word written under enables, onto the word that stands there.
 #[tactic(auto, unfolding(crate::specs::Memory::write_word_of))]
-pub fn write_word(ram: &mut [u32], address: u32, enables: u32, word: u32) -> Result<(), BusError>
-    ensures { wrote (moved_in 1 result) ram.new ≡ write_word_of ram.old address enables word }
+pub fn write_word(ram: &mut [u32], address: u32, enables: u32, word: u32) -> Result<Done<()>, BusError>
+    ensures { wrote (moved_in result) ram.new ≡ write_word_of ram.old address enables word }
 {
     let at = ram_place(address);
     if at < ram.len() {
         ram[at] = words::merge(enables, ram[at], word);
-        return Ok(());
+        return Ok(Done {
+            words: 1,
+            moved: (),
+        });
     }
-    Err(BusError { address })
+    Err(bus_error(address))
 }
 
 // Four words stored from a place on.
 #[tactic(auto, unfolding(crate::specs::Memory::put_of))]
-pub fn put(words: &mut [u32], at: usize, part: &[u32; 4])
-    requires { at + 4 ≤ length words.old }
+pub fn put(words: &mut [u32], at: usize, part: &[u32])
+    requires { (at + 4 ≤ length words.old) × (4 ≤ length part.now) }
     ensures { words.new ≡ put_of words.old at part.now }
 {
     words[at] = part[0];
@@ -123,13 +151,17 @@ pub fn put(words: &mut [u32], at: usize, part: &[u32; 4])
 
 // A line written.
 #[tactic(auto, unfolding(crate::specs::Memory::write_line_of))]
-pub fn write_line(ram: &mut [u32], address: u32, part: &[u32; 4]) -> Result<(), BusError>
-    ensures { wrote (moved_in 4 result) ram.new ≡ write_line_of ram.old address part.now }
+pub fn write_line(ram: &mut [u32], address: u32, part: &[u32]) -> Result<Done<()>, BusError>
+    requires { 4 ≤ length part.now }
+    ensures { wrote (moved_in result) ram.new ≡ write_line_of ram.old address part.now }
 {
     let at = ram_line(address);
     if ram.len() < at + 4 {
         return Err(line_error(address));
     }
     put(ram, at, part);
-    Ok(())
+    Ok(Done {
+        words: 4,
+        moved: (),
+    })
 }

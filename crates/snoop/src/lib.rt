@@ -41,7 +41,7 @@ fn give(
 {
     let at = lines::line_address(p, word);
     match memory::write_line(ram, at, cells::line_words(cells, p)) {
-        Ok(()) => {
+        Ok(_) => {
             lines::set_state(lines, p, yields(im));
             Snooped::Retry
         }

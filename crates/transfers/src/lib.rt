@@ -9,11 +9,11 @@ ghost use Rattle.after.specs.After.{fill_of, store_of};
 ghost use Rattle.transfers.specs.Transfers.{flown_to, single_by, carried, transfer_of};
 
 use course::{Course, Flight, Stage};
-use memory::BusError;
+use memory::{BusError, Done};
 
 // The line at the course's place copied back.
-fn copied_back(c: &Course, cells: &[u32; 4096], ram: &mut [u32]) -> Result<(), BusError>
-    ensures { wrote (moved_in 4 result) ram.new ≡ write_line_of ram.old c.now.want.address (line_words cells.now c.now.place) }
+fn copied_back(c: &Course, cells: &[u32; 4096], ram: &mut [u32]) -> Result<Done<()>, BusError>
+    ensures { wrote (moved_in result) ram.new ≡ write_line_of ram.old c.now.want.address (line_words cells.now c.now.place) }
 {
     memory::write_line(ram, c.want.address, cells::line_words(cells, c.place))
 }
@@ -46,7 +46,10 @@ fn single(c: Course, ram: &mut [u32], rom: &[u32]) -> Flight
 {
     let a = c.access;
     let read = if a.write {
-        memory::write_word(ram, c.want.address, a.enables, a.word).map(|()| 0)
+        memory::write_word(ram, c.want.address, a.enables, a.word).map(|done| Done {
+            words: done.words,
+            moved: 0,
+        })
     } else {
         memory::read_word(ram, rom, c.want.address)
     };
