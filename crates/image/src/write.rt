@@ -33,7 +33,7 @@ pub fn register_words(u: &Registers, pair: &FaultPair) -> [u32; 10]
 {
     [
         own::idr(u.idr),
-        own::scr(u.scr),
+        own::code(u.scr),
         own::ssr(u.ssr),
         u.sar,
         own::sctr(u.sctr),

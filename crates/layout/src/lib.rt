@@ -129,12 +129,9 @@ pub fn put_answer(reply: &mut [u32; 24], a: Answer)
 }
 
 // A snoop's reply: 0 clear, 1 retry, 2 failed.
+#[tactic(auto, unfolding(crate::specs::Layout::snooped_of))]
 pub fn snooped(answer: Snooped) -> u32
     ensures { result ≡ snooped_of answer }
 {
-    match answer {
-        Snooped::Clear => 0,
-        Snooped::Retry => 1,
-        Snooped::Failed => 2,
-    }
+    answer as u32
 }

@@ -12,7 +12,7 @@ pub fn registers_own(u: Registers, pair: FaultPair) -> bool
     ensures { result ≡ registers_own u pair }
 {
     (own::idr(u.idr) == u.idr)
-        & (own::scr(u.scr) == u.scr)
+        & (own::code(u.scr) == u.scr)
         & (own::ssr(u.ssr) == u.ssr)
         & (own::sctr(u.sctr) == u.sctr)
         & (own::status(pair.status) == pair.status)

@@ -9,13 +9,6 @@ pub fn idr(w: u32) -> u32
     words::bits(w, 31, 16) * 65536
 }
 
-// SCR: bits 5-0.
-pub fn scr(w: u32) -> u32
-    ensures { result ≡ own_scr w }
-{
-    words::bits(w, 5, 0)
-}
-
 // SSR: CE, BE; WT, SP, G, CI; M, U, WP, BH, V.
 pub fn ssr(w: u32) -> u32
     ensures { result ≡ own_ssr w }
@@ -64,9 +57,9 @@ pub fn frame(w: u32) -> u32
         + words::bits(w, 2, 2) * 4
 }
 
-// A use code: bits 5-0.
+// SCR: the command's code. A set's word: its use code. Both are bits 5-0.
 pub fn code(w: u32) -> u32
-    ensures { result ≡ own_code w }
+    ensures { (result ≡ own_scr w) × (result ≡ own_code w) }
 {
     words::bits(w, 5, 0)
 }

@@ -21,4 +21,4 @@ returns-then-i-lt4 c = rw (c.in-Sets.is, lt-ltb _ _ c.if-i-lt4.true, ← c.tag-t
 
 pub returns-else-i-lt4 : goal.returns-else-i-lt4
 unfolding own_word
-returns-else-i-lt4 c = rw (c.in-Sets.is, le-ltb _ _ c.if-i-lt4.false, ← c.code.ensures)
+returns-else-i-lt4 c = rw (c.in-Sets.is, le-ltb _ _ c.if-i-lt4.false, ← c.code.ensures.1)

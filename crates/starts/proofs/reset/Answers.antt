@@ -9,4 +9,4 @@ returns-in_err-reset c = rw (handed_on _ _ c.from_residual.ensures, ← c.in_err
 
 pub returns : goal.returns
 unfolding unit_by fresh_of
-returns c = rw (← c.in_ok-reset.ensures, c.no_fault.ensures, c.reset-2.ensures, c.clear-2.ensures, c.empty.ensures, c.clear.ensures)
+returns c = rw (← c.in_ok-reset.ensures, c.default.ensures, c.reset-2.ensures, c.clear-2.ensures, c.empty.ensures, c.clear.ensures)

@@ -4,4 +4,4 @@ use Rattle.image.proofs.write.register_words.Goals as goal
 
 pub returns : goal.returns
 unfolding own_registers own_pair
-returns c = rw (← c.idr.ensures, ← c.scr.ensures, ← c.ssr.ensures, ← c.sctr.ensures, ← c.status.ensures, ← c.area.ensures, ← c.area-2.ensures, ← c.pointer.ensures)
+returns c = rw (← c.idr.ensures, ← c.code.ensures.0, ← c.ssr.ensures, ← c.sctr.ensures, ← c.status.ensures, ← c.area.ensures, ← c.area-2.ensures, ← c.pointer.ensures)

@@ -4,4 +4,4 @@ use Rattle.saved.proofs.tests.registers_own.Goals as goal
 
 pub returns : goal.returns
 unfolding registers_own
-returns c = rw (← c.idr.ensures, ← c.scr.ensures, ← c.ssr.ensures, ← c.sctr.ensures, ← c.status.ensures, ← c.area.ensures, ← c.area-2.ensures, ← c.pointer.ensures)
+returns c = rw (← c.idr.ensures, ← c.code.ensures.0, ← c.ssr.ensures, ← c.sctr.ensures, ← c.status.ensures, ← c.area.ensures, ← c.area-2.ensures, ← c.pointer.ensures)
