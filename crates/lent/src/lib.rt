@@ -6,7 +6,7 @@ ghost use Rattle.lent.specs.Lent.{pair_with};
 
 use state::FaultPair;
 
-// The one function that stores through the lent pair.
+// Stores both words of the lent pair.
 pub fn store(pair: &mut FaultPair, status: u32, address: u32)
     ensures { pair.new ≡ pair_with status address }
 {
