@@ -8,6 +8,7 @@ use snoop::Snooped;
 use state::{Access, Answer, Registers, Transaction};
 
 // IDR, SCR, SSR, SAR, SCTR, SAPR, UAPR, pointer, then the ports.
+#[tactic(auto, unfolding(crate::specs::Layout::registers_of))]
 pub fn registers(unit: &[u32; 16]) -> Registers
     ensures { result ≡ registers_of unit.now }
 {
@@ -27,6 +28,7 @@ pub fn registers(unit: &[u32; 16]) -> Registers
     }
 }
 
+#[tactic(auto, unfolding(crate::specs::Layout::unit_of))]
 pub fn put_registers(unit: &mut [u32; 16], u: &Registers)
     ensures { unit.new ≡ unit_of u.now }
 {
@@ -38,6 +40,7 @@ pub fn put_registers(unit: &mut [u32; 16], u: &Registers)
 }
 
 // An access's kind: bit 7 supervisor, bit 6 write, bit 5 lock.
+#[tactic(auto, unfolding(crate::specs::Layout::access_as))]
 pub fn access(address: u32, kind: u32, enables: u32, word: u32) -> Access
     ensures { result ≡ access_as address kind enables word }
 {
@@ -52,6 +55,7 @@ pub fn access(address: u32, kind: u32, enables: u32, word: u32) -> Access
 }
 
 // A transaction's bits: 0 write, 1 G, 2 IM, 3 LK, 4 CI.
+#[tactic(auto, unfolding(crate::specs::Layout::bits_of))]
 fn bits(t: &Transaction) -> u32
     ensures { result ≡ bits_of t.now }
 {

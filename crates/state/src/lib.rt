@@ -82,6 +82,7 @@ pub struct Answer {
 }
 
 // The registers at reset; the host names the unit's number.
+#[tactic(auto, unfolding(crate::specs::Reset::reset_of))]
 pub fn reset(number: u8) -> Registers
     ensures { result ≡ reset_of number }
 {

@@ -3,6 +3,7 @@ ghost use Rattle.std.specs.Prelude.{◌≡◌};
 ghost use Rattle.state.specs.Own.{own_idr, own_scr, own_ssr, own_sctr, own_status, own_area, own_tag, own_frame, own_code, own_pointer};
 
 // IDR: unit number, type and version.
+#[tactic(auto, unfolding(crate::specs::Own::own_idr))]
 pub fn idr(w: u32) -> u32
     ensures { result ≡ own_idr w }
 {
@@ -10,6 +11,7 @@ pub fn idr(w: u32) -> u32
 }
 
 // SSR: CE, BE; WT, SP, G, CI; M, U, WP, BH, V.
+#[tactic(auto, unfolding(crate::specs::Own::own_ssr))]
 pub fn ssr(w: u32) -> u32
     ensures { result ≡ own_ssr w }
 {
@@ -17,6 +19,7 @@ pub fn ssr(w: u32) -> u32
 }
 
 // SCTR: PE, SE, PR.
+#[tactic(auto, unfolding(crate::specs::Own::own_sctr))]
 pub fn sctr(w: u32) -> u32
     ensures { result ≡ own_sctr w }
 {
@@ -24,6 +27,7 @@ pub fn sctr(w: u32) -> u32
 }
 
 // PFSR: the code.
+#[tactic(auto, unfolding(crate::specs::Own::own_status))]
 pub fn status(w: u32) -> u32
     ensures { result ≡ own_status w }
 {
@@ -31,6 +35,7 @@ pub fn status(w: u32) -> u32
 }
 
 // SAPR and UAPR: table base; WT; G, CI; TE.
+#[tactic(auto, unfolding(crate::specs::Own::own_area))]
 pub fn area(w: u32) -> u32
     ensures { result ≡ own_area w }
 {
@@ -41,6 +46,7 @@ pub fn area(w: u32) -> u32
 }
 
 // A line's tag word: the tag and VV. A PATC page word: the page, S and V.
+#[tactic(auto, unfolding(crate::specs::Own::own_tag))]
 pub fn tag(w: u32) -> u32
     ensures { result ≡ own_tag w }
 {
@@ -48,6 +54,7 @@ pub fn tag(w: u32) -> u32
 }
 
 // A PATC frame word: the frame; WT, SP, G, CI; M; WP.
+#[tactic(auto, unfolding(crate::specs::Own::own_frame))]
 pub fn frame(w: u32) -> u32
     ensures { result ≡ own_frame w }
 {
@@ -58,6 +65,7 @@ pub fn frame(w: u32) -> u32
 }
 
 // SCR: the command's code. A set's word: its use code. Both are bits 5-0.
+#[tactic(auto, unfolding(crate::specs::Own::own_scr, crate::specs::Own::own_code))]
 pub fn code(w: u32) -> u32
     ensures { (result ≡ own_scr w) × (result ≡ own_code w) }
 {
@@ -65,6 +73,7 @@ pub fn code(w: u32) -> u32
 }
 
 // The PATC's pointer: one over 55 counts as 0.
+#[tactic(auto, unfolding(crate::specs::Own::own_pointer))]
 pub fn pointer(w: u32) -> u32
     ensures { result ≡ own_pointer w }
 {
