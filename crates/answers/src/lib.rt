@@ -21,7 +21,7 @@ fn fault(pair: &mut FaultPair, outcome: Outcome)
     ensures { pair.new ≡ fault_of pair.old outcome }
 {
     if let Outcome::Failed(fault) = outcome {
-        *pair = state::pair(fault);
+        *pair = FaultPair::from(fault);
     }
 }
 
@@ -43,7 +43,7 @@ pub fn failed(pair: &mut FaultPair, address: u32) -> Answer
     ensures { (u : Registers) → accessed u pair.new result ≡ failed_of u address }
 {
     let fault = Fault { code: 3, address };
-    *pair = state::pair(fault);
+    *pair = FaultPair::from(fault);
     plain(Outcome::Failed(fault), 0)
 }
 

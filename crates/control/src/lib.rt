@@ -24,7 +24,7 @@ pub fn write_register(
     ensures { kept (stored_of u.new pair.new result) patc.new lines.new ram.new ≡ write_of u.old pair.old patc.old lines.old cells.now ram.old rom.now offset value }
 {
     if offset == 4 {
-        u.scr = state::own::scr(value);
+        u.scr = state::own::code(value);
         return commands::run(u, patc, lines, cells, ram, rom);
     }
     registers::set(u, pair, offset, value);

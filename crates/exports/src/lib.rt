@@ -27,7 +27,7 @@ fn any_access(
     let mut u = layout::registers(unit);
     let access = layout::access(address, kind, enables, word);
     let answer = unit::access(&mut u, pair, patc, lines, cells, ram, rom, access);
-    layout::put_registers(unit, u);
+    layout::put_registers(unit, &u);
     layout::put_answer(reply, answer);
 }
 
@@ -77,7 +77,7 @@ pub fn snoop(
     let g = words::bit(kind, 0);
     let im = words::bit(kind, 1);
     let answer = calls::snoop(&mut u, lines, cells, ram, address, g, im)?;
-    layout::put_registers(unit, u);
+    layout::put_registers(unit, &u);
     *reply = [layout::snooped(answer)];
     Ok(())
 }
@@ -111,7 +111,7 @@ pub fn write_register(
 {
     let mut u = layout::registers(unit);
     let moved = calls::write_register(&mut u, pair, patc, lines, cells, ram, rom, offset, value)?;
-    layout::put_registers(unit, u);
+    layout::put_registers(unit, &u);
     *reply = [moved];
     Ok(())
 }

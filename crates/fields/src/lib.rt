@@ -53,5 +53,5 @@ pub fn has_head(src: &[u8], at: usize, tag: u8, n: usize) -> bool
     requires { at + 3 ≤ length src.now }
     ensures { result ≡ head_at src.now at tag n }
 {
-    (src[at] == tag) & (count_at(src, at) == n)
+    src[at] == tag && count_at(src, at) == n
 }

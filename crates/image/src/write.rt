@@ -28,12 +28,13 @@ pub fn field(tag: u8, layout: Layout, src: &[u32], out: &mut [u8], at: usize)
 }
 
 // The ten words of field 1, own bits only.
+#[tactic(auto, unfolding(saved::specs::Chip::own_registers, saved::specs::Chip::own_pair))]
 pub fn register_words(u: &Registers, pair: &FaultPair) -> [u32; 10]
     ensures { result ≡ register_words (own_registers u.now) (own_pair pair.now) }
 {
     [
         own::idr(u.idr),
-        own::scr(u.scr),
+        own::code(u.scr),
         own::ssr(u.ssr),
         u.sar,
         own::sctr(u.sctr),

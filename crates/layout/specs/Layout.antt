@@ -10,7 +10,6 @@ use Rattle.state.specs.declared.Transaction.{Transaction}
 use Rattle.state.specs.Outcome.{case_of, value_of, place_of}
 use Rattle.snoop.specs.declared.Snooped.{Snooped}
 use Rattle.snoop.specs.declared.Snooped.TheVariants.{Clear, Retry, Failed}
-use Rattle.layout.specs.declared.Row.{Row}
 use Rattle.course.specs.Course.{no_transaction}
 
 -- word n of an array
@@ -48,6 +47,12 @@ bits_of t = flag_of t.write 1 + flag_of t.g 2 + flag_of t.im 4 + flag_of t.lk 8 
 -- a count as a word of 32 bits
 abbrev pub count_of : ℕ → ℕ
 count_of n = n % 4294967296
+
+-- a transaction in a reply: its bits, address and words
+pub record Row : Type 0 where
+  pub bits : ℕ
+  pub address : ℕ
+  pub words : ℕ
 
 abbrev pub row_of : Transaction → Row
 row_of t = record { bits = bits_of t; address = t.address; words = t.words }

@@ -1,21 +1,14 @@
 // How a unit, an access and its answer are laid out in plain arrays.
 #![tactic(auto)]
 
-ghost use Rattle.std.specs.Prelude.{◌≡◌, ◌≤◌};
-ghost use Rattle.layout.specs.Layout.{registers_of, unit_of, bits_of, row_of, access_as, count_of, reply_of, snooped_of};
+ghost use Rattle.std.specs.Prelude.{◌≡◌, []};
+ghost use Rattle.layout.specs.Layout.{registers_of, unit_of, bits_of, row_of, words_of, access_as, reply_of, snooped_of};
 
 use snoop::Snooped;
 use state::{Access, Answer, Registers, Transaction};
 
-// A transaction in a reply: its bits, address and words.
-#[derive(Clone, Copy)]
-pub struct Row {
-    pub bits: u32,
-    pub address: u32,
-    pub words: u32,
-}
-
 // IDR, SCR, SSR, SAR, SCTR, SAPR, UAPR, pointer, then the ports.
+#[tactic(auto, unfolding(crate::specs::Layout::registers_of))]
 pub fn registers(unit: &[u32; 16]) -> Registers
     ensures { result ≡ registers_of unit.now }
 {
@@ -35,8 +28,9 @@ pub fn registers(unit: &[u32; 16]) -> Registers
     }
 }
 
-pub fn put_registers(unit: &mut [u32; 16], u: Registers)
-    ensures { unit.new ≡ unit_of u }
+#[tactic(auto, unfolding(crate::specs::Layout::unit_of))]
+pub fn put_registers(unit: &mut [u32; 16], u: &Registers)
+    ensures { unit.new ≡ unit_of u.now }
 {
     let ports = u.ports;
     *unit = [
@@ -46,6 +40,7 @@ pub fn put_registers(unit: &mut [u32; 16], u: Registers)
 }
 
 // An access's kind: bit 7 supervisor, bit 6 write, bit 5 lock.
+#[tactic(auto, unfolding(crate::specs::Layout::access_as))]
 pub fn access(address: u32, kind: u32, enables: u32, word: u32) -> Access
     ensures { result ≡ access_as address kind enables word }
 {
@@ -60,8 +55,9 @@ pub fn access(address: u32, kind: u32, enables: u32, word: u32) -> Access
 }
 
 // A transaction's bits: 0 write, 1 G, 2 IM, 3 LK, 4 CI.
-fn bits(t: Transaction) -> u32
-    ensures { result ≡ bits_of t }
+#[tactic(auto, unfolding(crate::specs::Layout::bits_of))]
+fn bits(t: &Transaction) -> u32
+    ensures { result ≡ bits_of t.now }
 {
     words::flag(t.write, 1)
         + words::flag(t.g, 2)
@@ -71,70 +67,36 @@ fn bits(t: Transaction) -> u32
 }
 
 // A transaction as three words.
-fn row_of(t: Transaction) -> Row
-    ensures { result ≡ row_of t }
+fn row(t: &Transaction) -> [u32; 3]
+    ensures { result ≡ words_of (row_of t.now) [] }
 {
-    Row {
-        bits: bits(t),
-        address: t.address,
-        words: u32::from(t.words),
-    }
-}
-
-// The count of transactions, as a word.
-fn listed(count: usize) -> u32
-    ensures { result ≡ count_of count }
-{
-    (count % 4294967296) as u32
+    [bits(t), t.address, u32::from(t.words)]
 }
 
 // An access's reply: the outcome's number, its value and address, words moved, transactions listed, then each transaction.
 pub fn put_answer(reply: &mut [u32; 24], a: Answer)
     ensures { reply.new ≡ reply_of a }
 {
-    let o = a.outcome;
-    let list = a.list;
-    let t0 = row_of(list[0]);
-    let t1 = row_of(list[1]);
-    let t2 = row_of(list[2]);
-    let t3 = row_of(list[3]);
-    let t4 = row_of(list[4]);
-    let t5 = row_of(list[5]);
-    *reply = [
-        o.number(),
-        o.value(),
-        o.place(),
+    let outcome = a.outcome;
+    let count = (a.count % 4294967296) as u32;
+    *reply = [0; 24];
+    reply[..5].copy_from_slice(&[
+        outcome.number(),
+        outcome.value(),
+        outcome.place(),
         a.words,
-        listed(a.count),
-        t0.bits,
-        t0.address,
-        t0.words,
-        t1.bits,
-        t1.address,
-        t1.words,
-        t2.bits,
-        t2.address,
-        t2.words,
-        t3.bits,
-        t3.address,
-        t3.words,
-        t4.bits,
-        t4.address,
-        t4.words,
-        t5.bits,
-        t5.address,
-        t5.words,
-        0,
-    ];
+        count,
+    ]);
+    for (i, t) in a.list.iter().enumerate() {
+        let at = 5 + i * 3;
+        reply[at..at + 3].copy_from_slice(&row(t));
+    }
 }
 
 // A snoop's reply: 0 clear, 1 retry, 2 failed.
+#[tactic(auto, unfolding(crate::specs::Layout::snooped_of))]
 pub fn snooped(answer: Snooped) -> u32
     ensures { result ≡ snooped_of answer }
 {
-    match answer {
-        Snooped::Clear => 0,
-        Snooped::Retry => 1,
-        Snooped::Failed => 2,
-    }
+    answer as u32
 }

@@ -1,4 +1,4 @@
-// The fault pair as the host lends it, and what a call answers beside it.
+// The fault pair as the host lends it.
 #![tactic(auto)]
 
 ghost use Rattle.std.specs.Prelude.{◌≡◌};
@@ -6,20 +6,7 @@ ghost use Rattle.lent.specs.Lent.{pair_with};
 
 use state::FaultPair;
 
-// What a call answers, and the fault pair that it leaves.
-#[derive(Clone, Copy)]
-pub struct Called {
-    pub pair: FaultPair,
-    pub number: u32,
-}
-
-// .. of a call that leaves the pair alone.
-#[derive(Clone, Copy)]
-pub struct Numbered {
-    pub number: u32,
-}
-
-// The one function that stores through the lent pair.
+// Stores both words of the lent pair.
 pub fn store(pair: &mut FaultPair, status: u32, address: u32)
     ensures { pair.new ≡ pair_with status address }
 {

@@ -48,7 +48,7 @@ fn enables_test(enables: u32) -> Result<(), Refusal>
 fn offset_test(offset: u32) -> Result<(), Refusal>
     ensures { number_in result ≡ offset_test offset 0 }
 {
-    given((offset <= 4092) & (offset % 4 == 0), Refusal::Offset)
+    given(offset <= 4092 && offset % 4 == 0, Refusal::Offset)
 }
 
 fn out_test(out: usize) -> Result<(), Refusal>

@@ -20,7 +20,7 @@ pub fn read(u: &Registers, pair: &FaultPair, offset: u32) -> u32
 {
     match offset {
         0x000 => state::own::idr(u.idr),
-        0x004 => state::own::scr(u.scr),
+        0x004 => state::own::code(u.scr),
         0x008 => state::own::ssr(u.ssr),
         0x00C => u.sar,
         0x104 => state::own::sctr(u.sctr),

@@ -20,7 +20,7 @@ pub fn reset(
 {
     let mut u = layout::registers(unit);
     starts::reset(&mut u, pair, patc, lines, cells, number)?;
-    layout::put_registers(unit, u);
+    layout::put_registers(unit, &u);
     Ok(())
 }
 
@@ -36,7 +36,7 @@ pub fn restore(
 {
     let mut u = layout::registers(unit);
     starts::restore(&mut u, pair, patc, lines, cells, image)?;
-    layout::put_registers(unit, u);
+    layout::put_registers(unit, &u);
     Ok(())
 }
 

@@ -31,6 +31,7 @@ pub enum Kind {
 }
 
 // The own bits of word `i` of a list laid out so.
+#[tactic(auto, unfolding(crate::specs::Chip::own_word))]
 pub fn own_word(layout: Layout, i: usize, w: u32) -> u32
     ensures { result ≡ own_word layout i w }
 {

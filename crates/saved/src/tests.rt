@@ -8,11 +8,12 @@ use order::UseOrder;
 use state::{FaultPair, Registers, own};
 
 // Have the registers own bits only?
+#[tactic(auto, unfolding(crate::specs::Tests::registers_own))]
 pub fn registers_own(u: Registers, pair: FaultPair) -> bool
     ensures { result ≡ registers_own u pair }
 {
     (own::idr(u.idr) == u.idr)
-        & (own::scr(u.scr) == u.scr)
+        & (own::code(u.scr) == u.scr)
         & (own::ssr(u.ssr) == u.ssr)
         & (own::sctr(u.sctr) == u.sctr)
         & (own::status(pair.status) == pair.status)
@@ -41,6 +42,7 @@ pub fn all_orders(src: &[u8], at: usize, n: usize) -> bool
 }
 
 // Are two lines valid, with one tag; or two PATC entries valid, with one page and space?
+#[tactic(auto, unfolding(crate::specs::Tests::alike))]
 fn are_alike(kind: Kind, a: u32, b: u32) -> bool
     ensures { result ≡ alike kind a b }
 {

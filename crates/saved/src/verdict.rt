@@ -9,6 +9,7 @@ use crate::{Kind, Layout, read, tests};
 use state::Refusal;
 
 // Does each field's head stand at its place?
+#[tactic(auto, unfolding(crate::specs::Verdict::heads_of))]
 fn heads(src: &[u8]) -> bool
     requires { length src.now ≡ 22039 }
     ensures { result ≡ heads_of src.now }
@@ -40,6 +41,7 @@ fn no_doubles(src: &[u8]) -> bool
 }
 
 // The first refusal that applies to an image.
+#[tactic(auto, unfolding(crate::specs::Verdict::verdict_of))]
 pub fn verdict(src: &[u8]) -> Result<(), Refusal>
     ensures { number_in result ≡ verdict_of src.now }
 {

@@ -22,7 +22,7 @@ pub fn reset(
 {
     refusals::reset(cells.len())?;
     *u = state::reset(number);
-    *pair = state::no_fault();
+    *pair = FaultPair::default();
     fresh::clear(patc);
     fresh::empty(lines);
     fresh::clear(cells);

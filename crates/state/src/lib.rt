@@ -5,7 +5,7 @@ pub mod own;
 mod places;
 
 ghost use Rattle.std.specs.Prelude.{◌≡◌};
-ghost use Rattle.state.specs.Reset.{reset_of, no_fault};
+ghost use Rattle.state.specs.Reset.{reset_of};
 ghost use Rattle.state.specs.Outcome.{case_of, value_of, place_of, status_of, pair_of};
 ghost use Rattle.state.specs.Refusal.{number_of};
 
@@ -25,9 +25,9 @@ pub struct Registers {
     pub ports: [u32; 8],
 }
 
-// PFSR and PFAR, laid out for hosts in C.
+// PFSR and PFAR, laid out for hosts in C. Both are 0 at reset.
 #[repr(C)]
-#[derive(Clone, Copy)]
+#[derive(Clone, Copy, Default)]
 pub struct FaultPair {
     pub status: u32,
     pub address: u32,
@@ -82,6 +82,7 @@ pub struct Answer {
 }
 
 // The registers at reset; the host names the unit's number.
+#[tactic(auto, unfolding(crate::specs::Reset::reset_of))]
 pub fn reset(number: u8) -> Registers
     ensures { result ≡ reset_of number }
 {
@@ -99,16 +100,6 @@ pub fn reset(number: u8) -> Registers
     }
 }
 
-// The fault pair at reset.
-pub fn no_fault() -> FaultPair
-    ensures { result ≡ no_fault }
-{
-    FaultPair {
-        status: 0,
-        address: 0,
-    }
-}
-
 // PFSR for a fault's code, which stands in bits 18-16.
 pub fn status(code: u32) -> u32
     ensures { result ≡ status_of code }
@@ -117,12 +108,14 @@ pub fn status(code: u32) -> u32
 }
 
 // The pair that a fault leaves.
-pub fn pair(fault: Fault) -> FaultPair
-    ensures { result ≡ pair_of fault }
-{
-    FaultPair {
-        status: status(fault.code),
-        address: fault.address,
+impl From<Fault> for FaultPair {
+    ghost from_gives = { λ fault pair. pair ≡ pair_of fault };
+
+    fn from(fault: Fault) -> FaultPair {
+        FaultPair {
+            status: status(fault.code),
+            address: fault.address,
+        }
     }
 }
 
@@ -161,20 +154,20 @@ impl Outcome {
     }
 }
 
-// Why a malformed call is refused. Each case has a number; of those that apply, the lowest is the answer.
+// Why a malformed call is refused, by number; of those that apply, the lowest is the answer.
 #[derive(Clone, Copy, PartialEq, Eq, Debug)]
 pub enum Refusal {
-    RamLength,
-    RomLength,
-    CellsLength,
-    Address,
-    Enables,
-    Offset,
-    ImageLength,
-    ImageHeads,
-    ImageBits,
-    ImageDoubles,
-    OutputLength,
+    RamLength = 1,
+    RomLength = 2,
+    CellsLength = 3,
+    Address = 4,
+    Enables = 5,
+    Offset = 6,
+    ImageLength = 7,
+    ImageHeads = 8,
+    ImageBits = 9,
+    ImageDoubles = 10,
+    OutputLength = 11,
 }
 
 // The number that C functions answer.
@@ -182,18 +175,6 @@ impl From<Refusal> for u32 {
     ghost from_gives = { λ refusal number. number ≡ number_of refusal };
 
     fn from(refusal: Refusal) -> u32 {
-        match refusal {
-            Refusal::RamLength => 1,
-            Refusal::RomLength => 2,
-            Refusal::CellsLength => 3,
-            Refusal::Address => 4,
-            Refusal::Enables => 5,
-            Refusal::Offset => 6,
-            Refusal::ImageLength => 7,
-            Refusal::ImageHeads => 8,
-            Refusal::ImageBits => 9,
-            Refusal::ImageDoubles => 10,
-            Refusal::OutputLength => 11,
-        }
+        refusal as u32
     }
 }

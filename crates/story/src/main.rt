@@ -36,7 +36,7 @@ impl Machine {
     fn new() -> Machine {
         Machine {
             registers: state::reset(127),
-            pair: state::no_fault(),
+            pair: FaultPair::default(),
             patc: [0; 112],
             lines: [3; 1280],
             cells: [0; 4096],
