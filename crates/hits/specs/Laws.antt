@@ -1,5 +1,5 @@
 -- Laws of a way: that of an entry is that of its translation, but for a write that finds M clear.
-use Rattle.std.specs.Prelude.{◌≡◌, Bool, true, false, not, ◌&&◌, Option, Some, None}
+use Rattle.std.specs.Prelude.{◌≡◌, Bool, true, false, not, ◌&&◌, Some, None}
 use Rattle.std.proofs.Math.Path.{refl, sym}
 use Rattle.std.proofs.lemmas.Option.{same_Some}
 use Rattle.words.specs.Words.{pick}
