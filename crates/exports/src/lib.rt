@@ -7,7 +7,8 @@ ghost use Rattle.exports.specs.Exports.{access_out, access_to, access_export, sn
 
 use state::{FaultPair, Refusal};
 
-// Any access that is not refused, by the unit.
+// Any access that is not refused, by the unit. It is cold, so that what it needs takes no register from a hit's way.
+#[cold]
 fn any_access(
     unit: &mut [u32; 16],
     pair: &mut FaultPair,

@@ -5,7 +5,6 @@ use Rattle.lines.specs.Lines.{state_of, tag_word, hit_of}
 use Rattle.pages.specs.declared.Translation.{Translation}
 use Rattle.pages.specs.Pages.{unmapped_of, port_of, block_of, paged_of, protection_of}
 use Rattle.patc.specs.Patc.{frame_word, entry_of}
-use Rattle.hits.specs.declared.Way.{Way as TheWay}
 use Rattle.hits.specs.declared.Hit.{Hit}
 
 -- the way of an access to the cache: its physical address, whether it may touch a line alone, and whether its page is global
@@ -14,12 +13,17 @@ pub record Way : Type 0 where
   pub clear : Bool
   pub g : Bool
 
--- a way that is clear, and none otherwise; and back
-abbrev pub clear_way : Way → Option TheWay
-clear_way w = pick w.clear (Some (record { address = w.address; g = w.g })) None
+-- a way that is clear, and none otherwise
+abbrev pub clear_way : Way → Option Way
+clear_way w = pick w.clear (Some w) None
 
-abbrev pub way_by : TheWay → Way
-way_by w = record { address = w.address; clear = true; g = w.g }
+-- the clear way of a translation, if there is one
+abbrev pub way_by : Translation → Way
+way_by t = record { address = t.address; clear = true; g = t.g }
+
+abbrev pub way_in : Option Translation → Option Way
+way_in None = None
+way_in (Some t) = Some (way_by t)
 
 -- neither inhibited nor barred, nor a write through the cache
 abbrev pub clear_for : Translation → Bool → Bool → Bool

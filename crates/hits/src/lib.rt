@@ -5,18 +5,11 @@ ghost use Rattle.std.specs.Prelude.{◌≡◌};
 ghost use Rattle.words.specs.Words.{keep_of};
 ghost use Rattle.lines.specs.Lines.{used_at, marked};
 ghost use Rattle.cells.specs.Cells.{word_at, merged_at};
-ghost use Rattle.hits.specs.Hits.{clear_way, way_by, way_of, found_of, kept_of, hit_if, hit_by, look_of};
+ghost use Rattle.hits.specs.Hits.{clear_way, way_by, way_in, way_of, found_of, kept_of, hit_if, hit_by, look_of};
 
 use lines::LineState;
 use pages::Translation;
 use state::Place;
-
-// The way of an access to the cache, where it may touch a line alone: its physical address, and whether its page is global.
-#[derive(Clone, Copy)]
-struct Way {
-    address: u32,
-    g: bool,
-}
 
 // Where an access hits: the place of its line, and the physical address.
 #[derive(Clone, Copy)]
@@ -25,23 +18,19 @@ pub struct Hit {
     pub address: u32,
 }
 
-// The way is clear of an access that is neither inhibited nor barred, nor a write through the cache.
+// A translation that is neither inhibited nor barred, nor one of a write through the cache.
 #[tactic(auto, unfolding(crate::specs::Hits::way_of))]
-fn way_of(t: Translation, supervisor: bool, write: bool) -> Option<Way>
-    ensures { result ≡ clear_way (way_of t supervisor write) }
+fn clear(t: Translation, supervisor: bool, write: bool) -> Option<Translation>
+    ensures { way_in result ≡ clear_way (way_of t supervisor write) }
 {
     let permitted = pages::protection(t, supervisor, write).is_ok();
-    let clear = !(t.ci | (write & t.wt)) & permitted;
-    if clear {
-        return Some(Way {
-            address: t.address,
-            g: t.g,
-        });
+    if !(t.ci | (write & t.wt)) & permitted {
+        return Some(t);
     }
     None
 }
 
-// The way of an access that needs no search, as a write does that finds M clear.
+// The clear translation of an access that needs no search, as a write does that finds M clear.
 fn found(
     area: u32,
     ports: &[u32],
@@ -49,21 +38,21 @@ fn found(
     address: u32,
     supervisor: bool,
     write: bool,
-) -> Option<Way>
-    ensures { result ≡ clear_way (found_of area ports.now patc.now address supervisor write) }
+) -> Option<Translation>
+    ensures { way_in result ≡ clear_way (found_of area ports.now patc.now address supervisor write) }
 {
     if !words::bit(area, 0) {
-        return way_of(pages::unmapped(area, address), supervisor, write);
+        return clear(pages::unmapped(area, address), supervisor, write);
     }
     if let Some(port) = pages::port(ports, address, supervisor) {
-        return way_of(pages::block(port, address), supervisor, write);
+        return clear(pages::block(port, address), supervisor, write);
     }
     let slot = patc::entry(patc, address, supervisor)?;
     let t = pages::paged(patc::frame(patc, slot), address);
     if write & !t.m {
         return None;
     }
-    way_of(t, supervisor, write)
+    clear(t, supervisor, write)
 }
 
 // Does a write to the line at a place touch the line only? Not to a shared one of a global page.
@@ -75,21 +64,20 @@ fn kept(lines: &[u32; 1280], g: bool, place: Place) -> bool
     !(g & (state == LineState::Shared))
 }
 
-// The line at the end of a way.
+// The line of a clear translation.
 #[tactic(auto, unfolding(crate::specs::Hits::hit_by, crate::specs::Hits::kept_of))]
-fn line_of(lines: &[u32; 1280], way: Way, write: bool) -> Option<Hit>
-    ensures { result ≡ hit_if (hit_by lines.now (way_by way) write) }
+fn line_of(lines: &[u32; 1280], t: Translation, write: bool) -> Option<Hit>
+    ensures { result ≡ hit_if (hit_by lines.now (way_by t) write) }
 {
-    let address = way.address;
+    let address = t.address;
     let place = lines::hit(lines, address)?;
-    if write & !kept(lines, way.g, place) {
+    if write & !kept(lines, t.g, place) {
         return None;
     }
     Some(Hit { place, address })
 }
 
 // The line that an access touches alone, if there is one.
-#[tactic(auto, unfolding(crate::specs::Hits::look_of, crate::specs::Hits::hit_by))]
 pub fn look(
     lines: &[u32; 1280],
     area: u32,
@@ -101,8 +89,8 @@ pub fn look(
 ) -> Option<Hit>
     ensures { result ≡ hit_if (look_of lines.now area ports.now patc.now address supervisor write) }
 {
-    let way = found(area, ports, patc, address, supervisor, write)?;
-    line_of(lines, way, write)
+    let t = found(area, ports, patc, address, supervisor, write)?;
+    line_of(lines, t, write)
 }
 
 // The word that is hit, and the line is used.

@@ -2,10 +2,10 @@
 use Prim.Native.Nat.{ℕ, zero, suc, ◌+◌, ◌-◌, ◌*◌, ◌/◌, ◌%◌, ◌^◌, ◌<◌, ◌≤◌}
 use Rattle.std.specs.Prelude.{◌≡◌, Bool, ◌&&◌, List, Some, None, ◌⊎◌, length, set, eqb, ltb}
 use Rattle.std.proofs.Math.Path.{refl, subst}
-use Rattle.std.proofs.Common.{sym, ap, ◌∙◌, true≢false, inl, inr, add-one, add-zero, zero-add, suc-add, length-set, get_or-set_same, get_or-set_other, pow_mono}
+use Rattle.std.proofs.Common.{sym, ap, ◌∙◌, true≢false, inl, inr, add-one, suc-add, length-set, get_or-set_same, get_or-set_other, pow_mono}
 use Rattle.std.proofs.Math.Bool.{true, false}
 use native.Mathlib.Omega.{arith}
-use Rattle.std.proofs.Math.Nat.{pow-suc, lt_of_lt_of_le, mul_assoc}
+use Rattle.std.proofs.Math.Nat.{pow-suc, lt_of_lt_of_le}
 use Rattle.std.proofs.Math.Decide.{ℕ_discrete}
 use Rattle.std.specs.Int.Count.{count_trailing_zeros, under}
 use Rattle.std.proofs.lemmas.Nat.{mod-pow-add}
@@ -114,32 +114,15 @@ slot_none n e = go (ltb n 56) e
 
 -- ---- the free entry: trailing zeros of the complemented map
 
--- an entry's bit fits the map
-pub bit_fits : (v n : ℕ) → v < 2 → n < 56 → v * 2 ^ n % 18446744073709551616 ≡ v * 2 ^ n
-bit_fits zero n h l = omega arith
-bit_fits (suc zero) n h l = let p : 2 ^ n ≤ 2 ^ 56 = pow_mono {j = 56} (omega arith) in omega arith
-bit_fits (suc (suc v)) n h l = absurd (omega arith)
-
 module _ (ps : List ℕ) where
   pub map_small : (n k : ℕ) → map_of ps n k < 2 ^ k
   unfolding map_of
   map_small n zero = omega arith
   map_small n (suc k) = let h : map_of ps (suc n) k < 2 ^ k = map_small (suc n) k in rw (pow-suc 2 k) (omega arith)
 
-  doubled : (a b x p : ℕ) → (a + x * p) * 2 + b ≡ a * 2 + b + x * (p * 2)
-  doubled a b x p = omega (arith, mul_assoc x p 2)
-
-  -- one entry more is one bit more, above the others
-  map_more : (n k : ℕ) → map_of ps n (suc k) ≡ map_of ps n k + valid_of (page_word ps (n + k)) * 2 ^ k
+  pub map_step : (n k : ℕ) → 0 < n → n ≤ k → map_of ps (n - 1) (k - (n - 1)) ≡ map_of ps n (k - n) * 2 + valid_of (page_word ps (n - 1))
   unfolding map_of
-  map_more n zero = rw add-zero (omega arith)
-  map_more n (suc k) = let e : suc n + k ≡ n + suc k = omega arith in rw (map_more (suc n) k, pow-suc 2 k, e) (doubled _ _ _ _)
-
-  pub map_next : (n : ℕ) → map_of ps 0 (suc n) ≡ map_of ps 0 n + valid_of (page_word ps n) * 2 ^ n
-  map_next n = rw zero-add at (map_more 0 n)
-
-  pub map_fits : (n : ℕ) → n < 56 → map_of ps 0 (suc n) < 72057594037927936
-  map_fits n l = lt_of_lt_of_le (map_small 0 (suc n)) (pow_mono {j = 56} (omega arith))
+  map_step n k h l = let e : k - (n - 1) ≡ suc (k - n) = omega arith in let f : suc (n - 1) ≡ n = omega arith in rw (e, f)
 
   digit : (x y v : ℕ) → y < x → v < 2 → ((x * 2 - 1) - (y * 2 + v)) % 2 ≡ 1 - v
   digit x y v h l = omega arith

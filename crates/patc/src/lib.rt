@@ -7,7 +7,7 @@ ghost use Rattle.patc.specs.Patc.{some_slot, frame_word, entry_of, valid_of, map
 
 use std::marker::Model;
 
-// Which translations a command clears: those of a page, of a segment, or all.
+// Which translations a command clears: those of a page, of a segment, or all. It is no `sweep::Range`: no command clears those of a line.
 #[derive(Clone, Copy)]
 pub enum Range {
     Page,
@@ -78,8 +78,8 @@ fn valid_map(patc: &[u32; 112]) -> u64
     ensures { (result ≡ map_of patc.now 0 56) × (result < 72057594037927936) }
 {
     let mut map: u64 = 0;
-    for number in 0..56 {
-        map += valid(patc[number * 2]) << number;
+    for number in (0..56).rev() {
+        map = map * 2 + valid(patc[number * 2]);
     }
     map
 }

@@ -1,9 +1,10 @@
-use Prim.Native.Nat.{◌+◌, ◌*◌, ◌%◌, ◌^◌, ◌<◌}
+use Prim.Native.Nat.{◌+◌, ◌*◌, ◌-◌, ◌<◌}
 use mathlib.Core.Path.{◌≡◌, refl, sym}
-use Rattle.std.proofs.Common.{add-one}
 use native.Mathlib.Omega.{arith}
+use native.Mathlib.Nat.{lt_of_lt_of_le}
+use lib.Pow.{pow_mono}
 use Rattle.patc.specs.Patc.{map_of}
-use Rattle.patc.specs.Laws.{map_next, bit_fits, map_fits}
+use Rattle.patc.specs.Laws.{map_small, map_step}
 use Rattle.patc.proofs.valid_map.Goals as goal
 
 pub loop-number-init : goal.loop-number-init
@@ -12,20 +13,7 @@ loop-number-init c = (refl, omega arith)
 
 pub loop-number-preserved : goal.loop-number-preserved
 loop-number-preserved c =
-    let n : c.loop-number.number < 56 = c.loop-number-test.true in
-    let e : c.loop-number.map + c.valid.result * 2 ^ c.loop-number.number % 18446744073709551616 ≡ map_of c.args.patc.now 0 (c.loop-number.number + 1) =
-    rw (add-one, bit_fits _ _ (c.valid.ensures.1) n, c.valid.ensures.0, c.loop-number.invariant.0) (sym (map_next _ _)) in
-    (e, rw (e, add-one) (map_fits _ _ n))
-
-pub overflow_add-map : goal.overflow_add-map
-overflow_add-map c =
-    let n : c.loop-number.number < 56 = c.loop-number-test.true in
-    let e : c.loop-number.map + c.valid.result * 2 ^ c.loop-number.number % 18446744073709551616 ≡ map_of c.args.patc.now 0 (c.loop-number.number + 1) =
-    rw (add-one, bit_fits _ _ (c.valid.ensures.1) n, c.valid.ensures.0, c.loop-number.invariant.0) (sym (map_next _ _)) in
-    let f : c.loop-number.map + c.valid.result * 2 ^ c.loop-number.number % 18446744073709551616 < 72057594037927936 = rw (e, add-one) (map_fits _ _ n) in
-    omega arith
-
-pub returns : goal.returns
-returns c =
-    let e : c.loop-number.number ≡ 56 = omega arith in
-    (rw e at c.loop-number.invariant.0, c.loop-number.invariant.1)
+    let l : 0 < c.loop-number.number = c.loop-number-test.true in
+    let e : c.loop-number.map * 2 + c.valid.result ≡ map_of c.args.patc.now (c.loop-number.number - 1) (56 - (c.loop-number.number - 1)) =
+    rw (c.valid.ensures.0, c.loop-number.invariant.0) (sym (map_step _ _ 56 l c.loop-number.auto.number)) in
+    (e, rw e (lt_of_lt_of_le (map_small _ _ _) (pow_mono {j = 56} (omega arith))))

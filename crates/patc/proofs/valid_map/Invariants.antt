@@ -1,8 +1,8 @@
--- the map of the entries looked at
-use Prim.Native.Nat.{◌<◌}
+-- the map of the entries from this one on
+use Prim.Native.Nat.{◌-◌, ◌<◌}
 use mathlib.Core.Path.{◌≡◌}
 use Rattle.patc.specs.Patc.{map_of}
 use Rattle.patc.proofs.valid_map.Given as goal
 
 abbrev pub invariant-loop-number : goal.invariant-loop-number
-invariant-loop-number l = (l.map ≡ map_of l.patc 0 l.number) × (l.map < 72057594037927936)
+invariant-loop-number l = (l.map ≡ map_of l.patc l.number (56 - l.number)) × (l.map < 72057594037927936)
