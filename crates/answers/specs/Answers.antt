@@ -51,7 +51,9 @@ failed_of u address =
 unfoldable pub written_of : Stored → Accessed
 written_of s = plain_of s.registers s.pair Written s.words
 
--- a flight that has ended
+-- a flight that has ended: its outcome and its transactions, and the pointer that it leaves
+abbrev pub flown_by : Registers → FaultPair → Outcome → List Transaction → ℕ → ℕ → Accessed
+flown_by u p o list count pointer = accessed (with_pointer u pointer) (fault_of p o) (answer_of o list count (total_of list))
+
 unfoldable pub flown_of : Registers → FaultPair → Flight → Accessed
-flown_of u p f =
-    accessed (with_pointer u f.course.pointer) (fault_of p f.outcome) (answer_of f.outcome f.course.list f.course.count (total_of f.course.list))
+flown_of u p f = flown_by u p f.outcome f.course.list f.course.count f.course.pointer

@@ -25,7 +25,8 @@ fn mapped(
     let area = registers::area(u, access.supervisor);
     let f = flight::begin(access, area, &u.ports, u.pointer, patc, lines, cells);
     let f = driver::run(f, patc, lines, cells, ram, rom);
-    answers::flown(u, pair, f)
+    let c = f.course;
+    answers::flown(u, pair, f.outcome, &c.list, c.count, c.pointer)
 }
 
 // One bus access.
