@@ -1,5 +1,5 @@
 -- A part of a slice written anew is a run of stores.
-use Rattle.std.proofs.Common.{◌≡◌, ℕ, ◌+◌, ◌-◌, ◌≤◌, List, ◌++◌, length, take, drop, sym, ap, ◌∙◌, append_assoc, drop-drop, arith}
+use Rattle.std.proofs.Common.{◌≡◌, ℕ, ◌+◌, ◌-◌, ◌≤◌, List, ◌++◌, length, take, drop, sym, ap, ◌∙◌, append_assoc, drop-drop}
 use Rattle.std.proofs.lemmas.List.Edits.{sets, sets-eq}
 use borrow.Rule.Slice.PartMut.{put_mid}
 

@@ -1,4 +1,3 @@
-use Rattle.std.proofs.Common.{sym}
 use borrow.Author.Tests.{ne_eqb}
 use Rattle.state.specs.Refusal.{number_of, handed_on, some_number}
 use Rattle.calls.specs.Calls.{read_by}
