@@ -11,7 +11,7 @@ use memory::BusError;
 use pages::Translation;
 use state::{Access, Fault, Outcome, Place, Transaction};
 
-// Which transaction is wanted next.
+// Which transaction is wanted next. It is an enum and no closure: a flight is handed out with what it wants.
 #[derive(Clone, Copy)]
 pub enum Stage {
     Done,
@@ -32,7 +32,7 @@ pub struct Course {
     pub want: Transaction,
     pub list: [Transaction; 6],
     pub count: usize,
-    // a search: the area pointer, the entry to renew (56: none), the segment descriptor or the page descriptor to write
+    // a search: the area pointer, the entry to renew (56: none, as `with_entry` and `loaded_of` have it), the segment descriptor or the page descriptor to write
     pub area: u32,
     pub entry: usize,
     pub descriptor: u32,

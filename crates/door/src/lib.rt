@@ -1,5 +1,5 @@
 // The public calls: a malformed call is refused, any other answered by the unit. The registers and the fault pair are lent,
-// and updated where they stand.
+// and updated where they stand. The calls themselves stand in `calls` and `starts`, which the theorems are about.
 #![tactic(auto)]
 
 ghost use Rattle.std.specs.Prelude.{◌≡◌};

@@ -1,4 +1,4 @@
-// The C functions of a running unit, but for the numbers that they answer.
+// The C functions of a running unit, but for the numbers that they answer. Units, kinds and replies are plain words, as C has them.
 #![tactic(auto)]
 
 ghost use Rattle.std.specs.Prelude.{◌≡◌};

@@ -1,4 +1,4 @@
-// The C library: each export makes the call of its name. include/mc88200.h says what each does.
+// The C library: each export makes the call of its name, since no crate can call a static library's. include/mc88200.h says what each does.
 #![tactic(auto)]
 
 ghost use Rattle.std.specs.Prelude.{◌≡◌};

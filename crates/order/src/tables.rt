@@ -1,4 +1,4 @@
-// The use code's three tables. Each is its rule, computed once over all codes.
+// The use code's three tables. Each is its rule, computed once over all codes; a function for each, since each contract is one table's.
 ghost use Rattle.std.specs.Prelude.{◌≡◌, ◌/◌, ◌%◌, ◌<◌};
 ghost use Rattle.order.specs.Order.{used_of, earliest_of, is_order};
 

@@ -1,4 +1,4 @@
-// An access that only touches a line of the cache, told from the words of a unit; and its reply.
+// An access that only touches a line of the cache, told from the words of a unit; and its reply. Unit, kind and reply are numbers as C has them.
 #![tactic(auto)]
 
 ghost use Rattle.std.specs.Prelude.{◌≡◌};

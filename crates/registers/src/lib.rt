@@ -13,6 +13,7 @@ pub fn area(u: &Registers, supervisor: bool) -> u32
     if supervisor { u.sapr } else { u.uapr }
 }
 
+// The offsets stay numbers: they are what hosts pass, and a match on them is the table of the document.
 // A register read: other offsets and the write ports read as 0.
 #[tactic(auto, unfolding(crate::specs::Registers::read_of))]
 pub fn read(u: &Registers, pair: &FaultPair, offset: u32) -> u32

@@ -44,7 +44,7 @@ pub struct Access {
     pub word: u32,
 }
 
-// A fault's code as PFSR has it, and its address.
+// A fault's code as PFSR has it, and its address. The code stays a number: a fault pair is promised for every code, not for five alone.
 #[derive(Clone, Copy)]
 pub struct Fault {
     pub code: u32,
@@ -73,6 +73,7 @@ pub struct Transaction {
 }
 
 // The answer to an access; beside it stand its transactions in order, and the count of words moved.
+// The list is an array with its length beside it: there is no heap, and C has all six places.
 #[derive(Clone, Copy)]
 pub struct Answer {
     pub outcome: Outcome,
