@@ -174,13 +174,7 @@ fn set_tag(lines: &mut [u32; 1280], p: Place, address: u32)
 
 // Fills one line: the four words, the address's tag, state 2.
 #[tactic(auto, unfolding(crate::specs::Lines::filled_of))]
-pub fn fill(
-    lines: &mut [u32; 1280],
-    cells: &mut [u32; 4096],
-    p: Place,
-    address: u32,
-    part: &[u32],
-)
+pub fn fill(lines: &mut [u32; 1280], cells: &mut [u32; 4096], p: Place, address: u32, part: &[u32])
     requires { 4 ≤ length part.now }
     ensures { (lines.new ≡ filled_of lines.old p address) × (cells.new ≡ put_of cells.old (p * 4) part.now) }
 {

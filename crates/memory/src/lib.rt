@@ -80,7 +80,11 @@ fn four(words: &[u32], at: usize) -> &[u32; 4]
 
 // The line that holds an address: its four words where they stand.
 #[tactic(auto, unfolding(crate::specs::Memory::part_of, crate::specs::Memory::shown_of))]
-pub fn line<'a>(ram: &'a [u32], rom: &'a [u32], address: u32) -> Result<Done<&'a [u32; 4]>, BusError>
+pub fn line<'a>(
+    ram: &'a [u32],
+    rom: &'a [u32],
+    address: u32,
+) -> Result<Done<&'a [u32; 4]>, BusError>
     ensures part { part_in result ≡ part_of ram.now rom.now address }
     ensures moved { moved_in result ≡ shown_of (part_of ram.now rom.now address) address }
 {
@@ -123,7 +127,12 @@ pub fn read_word(ram: &[u32], rom: &[u32], address: u32) -> Result<Done<u32>, Bu
 
 // One word written under enables, onto the word that stands there.
 #[tactic(auto, unfolding(crate::specs::Memory::write_word_of))]
-pub fn write_word(ram: &mut [u32], address: u32, enables: u32, word: u32) -> Result<Done<()>, BusError>
+pub fn write_word(
+    ram: &mut [u32],
+    address: u32,
+    enables: u32,
+    word: u32,
+) -> Result<Done<()>, BusError>
     ensures { wrote (moved_in result) ram.new ≡ write_word_of ram.old address enables word }
 {
     let at = ram_place(address);
