@@ -85,6 +85,8 @@ unfoldable pub searched_of : Course → Bool → ℕ → Transaction
 searched_of c write address = record { write = write; address = address; words = 1; g = bit_of c.area 7; im = write; lk = false; ci = false }
 
 -- else CI is 1 if the access is locked, else the translation's
+abbrev pub carried_by : Access → Translation → Bool → ℕ → ℕ → Bool → Bool → Bool → Transaction
+carried_by a t write address words g im lk = record { write = write; address = address; words = words; g = g; im = im; lk = lk; ci = a.lock || t.ci }
+
 unfoldable pub carried_of : Course → Bool → ℕ → ℕ → Bool → Bool → Bool → Transaction
-carried_of c write address words g im lk =
-    record { write = write; address = address; words = words; g = g; im = im; lk = lk; ci = c.access.lock || c.t.ci }
+carried_of c write address words g im lk = carried_by c.access c.t write address words g im lk

@@ -5,13 +5,14 @@ pub mod next;
 
 ghost use Rattle.std.specs.Prelude.{◌≡◌, ◌<◌};
 ghost use Rattle.memory.specs.Memory.{moved_of};
-ghost use Rattle.course.specs.Course.{no_transaction, no_translation, fresh_of, slot_of, with_want, listed_of, wanting_of, ended_of, failed_of, carried_of, searched_of};
+ghost use Rattle.course.specs.Course.{no_transaction, no_translation, fresh_of, slot_of, with_want, listed_of, wanting_of, ended_of, failed_of, carried_by, searched_of};
 
 use memory::BusError;
 use pages::Translation;
 use state::{Access, Fault, Outcome, Place, Transaction};
 
-// Which transaction is wanted next. It is an enum and no closure: a flight is handed out with what it wants.
+// Which transaction is wanted next. It is an enum and no closure: the check refuses a closure that is handed out, as a flight is with its stage;
+// and `driver::turn` promises `turn_of`, which goes by the stage.
 #[derive(Clone, Copy)]
 pub enum Stage {
     Done,
@@ -28,7 +29,7 @@ pub enum Stage {
 #[derive(Clone, Copy)]
 pub struct Course {
     pub access: Access,
-    // the transaction wanted next, those listed so far
+    // the transaction wanted next, those listed so far: an array with its length, since there is no heap
     pub want: Transaction,
     pub list: [Transaction; 6],
     pub count: usize,
@@ -146,9 +147,9 @@ pub fn searched(c: &Course, write: bool, address: u32) -> Transaction
 }
 
 // A transaction for the access's own data: CI is 1 if it is locked, else the translation's.
-#[tactic(auto, unfolding(crate::specs::Course::carried_of))]
 pub fn carried(
-    c: &Course,
+    access: &Access,
+    t: &Translation,
     write: bool,
     address: u32,
     words: u8,
@@ -156,7 +157,7 @@ pub fn carried(
     im: bool,
     lk: bool,
 ) -> Transaction
-    ensures { result ≡ carried_of c.now write address words g im lk }
+    ensures { result ≡ carried_by access.now t.now write address words g im lk }
 {
     Transaction {
         write,
@@ -165,6 +166,6 @@ pub fn carried(
         g,
         im,
         lk,
-        ci: c.access.lock | c.t.ci,
+        ci: access.lock | t.ci,
     }
 }

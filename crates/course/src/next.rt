@@ -6,40 +6,59 @@ use crate::{Course, Flight, Stage};
 use state::{Outcome, Place};
 
 // Wants the single word read or written in memory.
-#[tactic(auto, unfolding(crate::specs::Next::single_of))]
+#[tactic(auto, unfolding(crate::specs::Next::single_of, crate::specs::Course::carried_of))]
 pub fn single(c: Course) -> Flight
     ensures { result ≡ single_of c }
 {
     let a = c.access;
-    let t = crate::carried(&c, a.write, c.t.address, 1, c.t.g, a.write | a.lock, a.lock);
+    let t = crate::carried(
+        &c.access,
+        &c.t,
+        a.write,
+        c.t.address,
+        1,
+        c.t.g,
+        a.write | a.lock,
+        a.lock,
+    );
     crate::wanting(c, t, Stage::Single)
 }
 
 // Wants the word written to memory, and then to the line.
-#[tactic(auto, unfolding(crate::specs::Next::storing_of))]
+#[tactic(auto, unfolding(crate::specs::Next::storing_of, crate::specs::Course::carried_of))]
 pub fn storing(c: Course) -> Flight
     ensures { result ≡ storing_of c }
 {
-    let t = crate::carried(&c, true, c.t.address, 1, c.t.g, true, false);
+    let t = crate::carried(&c.access, &c.t, true, c.t.address, 1, c.t.g, true, false);
     crate::wanting(c, t, Stage::Store)
 }
 
 // Wants the line filled; with intent to modify for a write.
-#[tactic(auto, unfolding(crate::specs::Next::filling_of))]
+#[tactic(auto, unfolding(crate::specs::Next::filling_of, crate::specs::Course::carried_of))]
 pub fn filling(c: Course) -> Flight
     ensures { result ≡ filling_of c }
 {
     let first = c.t.address / 16 * 16;
-    let t = crate::carried(&c, false, first, 4, c.t.g, c.access.write, false);
+    let t = crate::carried(
+        &c.access,
+        &c.t,
+        false,
+        first,
+        4,
+        c.t.g,
+        c.access.write,
+        false,
+    );
     crate::wanting(c, t, Stage::Fill)
 }
 
 // Wants the line at the course's place copied back.
+#[tactic(auto, unfolding(crate::specs::Course::carried_of))]
 fn copying(c: Course, word: u32, g: bool, stage: Stage) -> Flight
     ensures { result ≡ copying_of c word g stage }
 {
     let at = lines::line_address(c.place, word);
-    let t = crate::carried(&c, true, at, 4, g, true, false);
+    let t = crate::carried(&c.access, &c.t, true, at, 4, g, true, false);
     crate::wanting(c, t, stage)
 }
 

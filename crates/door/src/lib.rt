@@ -1,5 +1,6 @@
 // The public calls: a malformed call is refused, any other answered by the unit. The registers and the fault pair are lent,
-// and updated where they stand. The calls themselves stand in `calls` and `starts`, which the theorems are about.
+// and updated where they stand. Each function is a call of `calls` or `starts` again: docs/PROMISES.md names both, and the edits of each
+// crate change a body of its own.
 #![tactic(auto)]
 
 ghost use Rattle.std.specs.Prelude.{◌≡◌};

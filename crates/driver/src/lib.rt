@@ -44,7 +44,7 @@ fn update(
     flight::search::take_update(c, patc, lines, cells, moved)
 }
 
-// One turn: the transaction that the flight wants.
+// One turn: the transaction that the flight wants, by its stage (see `Stage`).
 #[tactic(auto, unfolding(flight::specs::Ops::turn_of, flight::specs::Ops::turn_at), using(crate::specs::Turns::cache_turn))]
 pub fn turn(
     f: Flight,

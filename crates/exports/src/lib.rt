@@ -53,7 +53,7 @@ pub fn access(
     let Some(cells) = cells.as_mut_array() else {
         unreachable!();
     };
-    if let Some(hit) = quick::look(unit, patc, lines, address, kind, enables) {
+    if let Ok(hit) = quick::look(unit, patc, lines, address, kind, enables) {
         quick::answer(lines, cells, hit, words::bit(kind, 6), enables, word, reply);
         return Ok(());
     }

@@ -1,5 +1,5 @@
 -- An access that only touches a line of the cache: its way there by the area pointer, a port or an entry, and the line that it hits.
-use Rattle.std.specs.Prelude.{ℕ, Bool, true, false, not, ◌&&◌, ◌||◌, List, Option, Some, None, ◌≡◌, refl, eqb, ltb}
+use Rattle.std.specs.Prelude.{ℕ, Bool, true, false, not, ◌&&◌, ◌||◌, List, Option, Some, None, Result, Ok, Err, eqb, ltb}
 use Rattle.words.specs.Words.{pick, bit_of}
 use Rattle.lines.specs.Lines.{state_of, tag_word, hit_of}
 use Rattle.pages.specs.declared.Translation.{Translation}
@@ -58,9 +58,10 @@ no_hit = record { place = 1024; address = 0 }
 abbrev pub line_at : List ℕ → ℕ → Hit
 line_at ls address = record { place = hit_of ls address; address = address }
 
--- a hit at a place of the directory, and none otherwise
-abbrev pub hit_if : Hit → Option Hit
-hit_if h = pick (ltb h.place 1024) (Some h) None
+-- what the code answers: a hit at a place of the directory, or the address beside none
+abbrev pub hit_in : Result Hit ℕ → Hit
+hit_in (Ok h) = h
+hit_in (Err address) = record { place = 1024; address = address }
 
 unfoldable pub hit_by : List ℕ → Way → Bool → Hit
 hit_by ls w write =
@@ -68,11 +69,3 @@ hit_by ls w write =
 
 unfoldable pub look_of : List ℕ → ℕ → List ℕ → List ℕ → ℕ → Bool → Bool → Hit
 look_of ls area ports ps address s write = hit_by ls (found_of area ports ps address s write) write
-
--- a hit that stands is the one that is looked for, at a place of the directory
-pub hit_stands : (h x : Hit) → hit_if h ≡ Some x → (ltb h.place 1024 ≡ true) × (h ≡ x)
-hit_stands h x e = go (ltb h.place 1024) e
-  where
-    go : (b : Bool) → pick b (Some h) None ≡ Some x → (b ≡ true) × (h ≡ x)
-    go true f = (refl, cc)
-    go false f = absurd cc

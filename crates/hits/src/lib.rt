@@ -5,7 +5,7 @@ ghost use Rattle.std.specs.Prelude.{◌≡◌};
 ghost use Rattle.words.specs.Words.{keep_of};
 ghost use Rattle.lines.specs.Lines.{used_at, marked};
 ghost use Rattle.cells.specs.Cells.{word_at, merged_at};
-ghost use Rattle.hits.specs.Hits.{clear_way, way_by, way_in, way_of, found_of, kept_of, hit_if, hit_by, look_of};
+ghost use Rattle.hits.specs.Hits.{clear_way, way_by, way_in, way_of, found_of, kept_of, hit_in, hit_by, look_of};
 
 use lines::LineState;
 use pages::Translation;
@@ -66,18 +66,20 @@ fn kept(lines: &[u32; 1280], g: bool, place: Place) -> bool
 
 // The line of a clear translation.
 #[tactic(auto, unfolding(crate::specs::Hits::hit_by, crate::specs::Hits::kept_of))]
-fn line_of(lines: &[u32; 1280], t: Translation, write: bool) -> Option<Hit>
-    ensures { result ≡ hit_if (hit_by lines.now (way_by t) write) }
+fn line_of(lines: &[u32; 1280], t: Translation, write: bool) -> Result<Hit, u32>
+    ensures { hit_in result ≡ hit_by lines.now (way_by t) write }
 {
     let address = t.address;
-    let place = lines::hit(lines, address)?;
+    let Some(place) = lines::hit(lines, address) else {
+        return Err(if write { 0 } else { address });
+    };
     if write & !kept(lines, t.g, place) {
-        return None;
+        return Err(0);
     }
-    Some(Hit { place, address })
+    Ok(Hit { place, address })
 }
 
-// The line that an access touches alone, if there is one.
+// The line that an access touches alone; else the address at which a read finds no line, and 0 where the access does more.
 pub fn look(
     lines: &[u32; 1280],
     area: u32,
@@ -86,11 +88,13 @@ pub fn look(
     address: u32,
     supervisor: bool,
     write: bool,
-) -> Option<Hit>
-    ensures { result ≡ hit_if (look_of lines.now area ports.now patc.now address supervisor write) }
+) -> Result<Hit, u32>
+    ensures { hit_in result ≡ look_of lines.now area ports.now patc.now address supervisor write }
 {
-    let t = found(area, ports, patc, address, supervisor, write)?;
-    line_of(lines, t, write)
+    match found(area, ports, patc, address, supervisor, write) {
+        Some(t) => line_of(lines, t, write),
+        None => Err(0),
+    }
 }
 
 // The word that is hit, and the line is used.

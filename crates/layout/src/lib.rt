@@ -7,7 +7,7 @@ ghost use Rattle.layout.specs.Layout.{registers_of, unit_of, bits_of, row_of, wo
 use snoop::Snooped;
 use state::{Access, Answer, Registers, Transaction};
 
-// IDR, SCR, SSR, SAR, SCTR, SAPR, UAPR, pointer, then the ports: each word by its place, as C lends them.
+// IDR, SCR, SSR, SAR, SCTR, SAPR, UAPR, pointer, then the ports. All sixteen are listed: `let [idr, .., ports @ ..] = *unit` was tried, and its proof did not close.
 #[tactic(auto, unfolding(crate::specs::Layout::registers_of))]
 pub fn registers(unit: &[u32; 16]) -> Registers
     ensures { result ≡ registers_of unit.now }

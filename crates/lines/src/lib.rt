@@ -11,10 +11,10 @@ use state::Place;
 // The state of a line, VV of its tag word: exclusive unmodified, exclusive modified, shared unmodified, invalid.
 #[derive(Clone, Copy, PartialEq, Eq)]
 pub enum LineState {
-    Exclusive,
-    Modified,
-    Shared,
-    Invalid,
+    Exclusive = 0,
+    Modified = 1,
+    Shared = 2,
+    Invalid = 3,
 }
 
 impl LineState {
@@ -22,12 +22,7 @@ impl LineState {
     fn bits(self) -> u32
         ensures { (result ≡ vv_of self) × (result < 4) }
     {
-        match self {
-            LineState::Exclusive => 0,
-            LineState::Modified => 1,
-            LineState::Shared => 2,
-            LineState::Invalid => 3,
-        }
+        self as u32
     }
 }
 

@@ -7,7 +7,7 @@ ghost use Rattle.lookup.specs.Lookup.{placed, judged, finished, permit_of, place
 use pages::Translation;
 use state::Fault;
 
-// Where a translation was found; a page's has the number of its entry.
+// Where a translation was found; a page's has the number of its entry. It is a number and no `Slot`, since `judge` promises an answer for any.
 #[derive(Clone, Copy)]
 pub enum Place {
     Unmapped(Translation),
@@ -15,7 +15,7 @@ pub enum Place {
     Page(usize, Translation),
 }
 
-// What an access does next: go on with its translation, or search the tables and renew an entry (56: load one, the number that `judge_of` and `Course` have).
+// What an access does next: go on with its translation, or search the tables and renew an entry (56: load one; `judge` promises an answer for any number).
 #[derive(Clone, Copy)]
 pub enum Lookup {
     Found(Translation),

@@ -1,4 +1,5 @@
-// The use code's three tables. Each is its rule, computed once over all codes; a function for each, since each contract is one table's.
+// The use code's three tables. Each is its rule, computed once over all codes. Each has a function:
+// one over any table would have a contract with the table and its rule in it, and no caller is shorter by that.
 ghost use Rattle.std.specs.Prelude.{◌≡◌, ◌/◌, ◌%◌, ◌<◌};
 ghost use Rattle.order.specs.Order.{used_of, earliest_of, is_order};
 

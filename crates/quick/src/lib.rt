@@ -2,7 +2,7 @@
 #![tactic(auto)]
 
 ghost use Rattle.std.specs.Prelude.{◌≡◌};
-ghost use Rattle.hits.specs.Hits.{hit_if};
+ghost use Rattle.hits.specs.Hits.{hit_in};
 ghost use Rattle.quick.specs.Quick.{plain_access, area_at, quick_of, plain_reply, lines_after, cells_after, reply_after};
 
 use hits::Hit;
@@ -33,11 +33,11 @@ pub fn look(
     address: u32,
     kind: u32,
     enables: u32,
-) -> Option<Hit>
-    ensures { result ≡ hit_if (quick_of unit.now patc.now lines.now address kind enables) }
+) -> Result<Hit, u32>
+    ensures { hit_in result ≡ quick_of unit.now patc.now lines.now address kind enables }
 {
     if !plain(address, kind, enables) {
-        return None;
+        return Err(0);
     }
     let supervisor = words::bit(kind, 7);
     let write = words::bit(kind, 6);

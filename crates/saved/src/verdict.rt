@@ -1,5 +1,5 @@
 // Whether an image is taken: each test over the whole image before the next. No test stores anything.
-ghost use Rattle.std.specs.Prelude.{◌≡◌, length};
+ghost use Rattle.std.specs.Prelude.{◌≡◌};
 ghost use Rattle.state.specs.Refusal.{number_in};
 ghost use Rattle.saved.specs.Image.{read_of};
 ghost use Rattle.saved.specs.Tests.{bits_right, no_doubles};
@@ -10,8 +10,7 @@ use state::Refusal;
 
 // Does each field's head stand at its place?
 #[tactic(auto, unfolding(crate::specs::Verdict::heads_of))]
-fn heads(src: &[u8]) -> bool
-    requires { length src.now ≡ 22039 }
+fn heads(src: &[u8; 22039]) -> bool
     ensures { result ≡ heads_of src.now }
 {
     fields::has_head(src, 0, 1, 40)
@@ -22,8 +21,7 @@ fn heads(src: &[u8]) -> bool
 }
 
 // Is no bit set that the layout has as zero, is the pointer at most 55, and is each use code an order?
-fn bits_right(src: &[u8]) -> bool
-    requires { length src.now ≡ 22039 }
+fn bits_right(src: &[u8; 22039]) -> bool
     ensures { result ≡ bits_right (read_of src.now) }
 {
     tests::registers_own(read::registers_at(src), read::pair_at(src))
@@ -33,8 +31,7 @@ fn bits_right(src: &[u8]) -> bool
 }
 
 // Are no two valid lines of a set of one tag, and no two valid PATC entries of one page and space?
-fn no_doubles(src: &[u8]) -> bool
-    requires { length src.now ≡ 22039 }
+fn no_doubles(src: &[u8; 22039]) -> bool
     ensures { result ≡ no_doubles (read_of src.now) }
 {
     tests::sets_apart(src, 532, 256) & tests::all_apart(Kind::Entry, src, 81, 8, 56)
@@ -45,9 +42,9 @@ fn no_doubles(src: &[u8]) -> bool
 pub fn verdict(src: &[u8]) -> Result<(), Refusal>
     ensures { number_in result ≡ verdict_of src.now }
 {
-    if src.len() != 22039 {
+    let Some(src) = src.as_array() else {
         return Err(Refusal::ImageLength);
-    }
+    };
     if !heads(src) {
         return Err(Refusal::ImageHeads);
     }

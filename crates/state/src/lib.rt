@@ -44,7 +44,7 @@ pub struct Access {
     pub word: u32,
 }
 
-// A fault's code as PFSR has it, and its address. The code stays a number: a fault pair is promised for every code, not for five alone.
+// A fault's code as PFSR has it, and its address. The code stays a number: `FaultPair::from` and `course::failed` promise an answer for every code.
 #[derive(Clone, Copy)]
 pub struct Fault {
     pub code: u32,

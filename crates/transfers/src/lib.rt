@@ -56,7 +56,7 @@ fn single(c: Course, ram: &mut [u32], rom: &[u32]) -> Flight
     after::take_single(c, read)
 }
 
-// The transaction that the cache wants; one of a search is left alone.
+// The transaction that the cache wants, by its stage (see `Stage`); one of a search is left alone.
 #[tactic(auto, unfolding(crate::specs::Transfers::transfer_at))]
 pub fn transfer(
     f: Flight,

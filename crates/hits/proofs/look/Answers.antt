@@ -3,10 +3,10 @@ use Rattle.hits.specs.Hits.{way_in, hit_by, look_of}
 use Rattle.hits.specs.Laws.{clear_some, clear_none}
 use Rattle.hits.proofs.look.Goals as goal
 
-pub returns-in_err-t : goal.returns-in_err-t
+pub returns-in-None : goal.returns-in-None
 unfolding look_of hit_by
-returns-in_err-t c = rw (c.from_residual.ensures, clear_none _ (sym (ap way_in c.in_err-t.was) ∙ c.found.ensures))
+returns-in-None c = rw (clear_none _ (sym (ap way_in c.in-None.is) ∙ c.found.ensures))
 
-pub returns : goal.returns
+pub returns-in-Some : goal.returns-in-Some
 unfolding look_of
-returns c = rw (c.line_of.ensures, clear_some _ _ (sym (ap way_in c.in_ok-t.was) ∙ c.found.ensures))
+returns-in-Some c = rw (c.line_of.ensures, clear_some _ _ (sym (ap way_in c.in-Some.is) ∙ c.found.ensures))
