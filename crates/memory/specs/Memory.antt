@@ -86,6 +86,10 @@ abbrev pub part_in : Result (Done (Bor (List ℕ))) BusError → List ℕ
 part_in (Ok d) = d.moved.now
 part_in (Err e) = []
 
+-- the four words of a part that has them, else none
+abbrev pub whole_of : List ℕ → List ℕ
+whole_of part = pick (ltb (length part) 4) [] (take 4 part)
+
 -- what a write moved, and RAM after it
 pub record Wrote : Type 0 where
   pub moved : Moved

@@ -1,8 +1,8 @@
 // Memory as the host lends it: RAM from address 0, ROM from FFE00000. Nobody else moves a word.
 #![tactic(auto)]
 
-ghost use Rattle.std.specs.Prelude.{◌≡◌, ◌+◌, ◌*◌, ◌/◌, ◌<◌, ◌≤◌, length, take, drop};
-ghost use Rattle.memory.specs.Memory.{is_area, ram_rule, rom_rule, ram_place, ram_line, rom_word, moved_in, read_in, part_in, part_of, shown_of, read_of, wrote, put_of, write_word_of, write_line_of};
+ghost use Rattle.std.specs.Prelude.{◌≡◌, ◌+◌, ◌*◌, ◌/◌, ◌<◌, ◌≤◌, length, take, []};
+ghost use Rattle.memory.specs.Memory.{is_area, whole_of, ram_rule, rom_rule, ram_place, ram_line, rom_word, moved_in, read_in, part_in, part_of, shown_of, read_of, wrote, put_of, write_word_of, write_line_of};
 
 // ROM's first word, FFE00000 / 4.
 const ROM: usize = 1073217536;
@@ -70,16 +70,36 @@ fn line_error(address: u32) -> BusError
     bus_error(address / 16 * 16)
 }
 
-// The four words from a place on.
-fn four(words: &[u32], at: usize) -> &[u32; 4]
-    requires { at + 4 ≤ length words.now }
-    ensures { result.now ≡ take 4 (drop at words.now) }
+// What showing a part of memory moved: its four words, or none where it came back empty.
+#[tactic(auto, unfolding(crate::specs::Memory::shown_of))]
+pub fn shown(part: &[u32], address: u32) -> Result<Done<&[u32; 4]>, BusError>
+    ensures moved { moved_in result ≡ shown_of part.now address }
+    ensures part { part_in result ≡ whole_of part.now }
 {
-    words[at..].first_chunk().unwrap()
+    match part.first_chunk() {
+        Some(moved) => Ok(Done { words: 4, moved }),
+        None => Err(line_error(address)),
+    }
+}
+
+// The part that holds an address's line: its four words where they stand, or no words.
+#[tactic(auto, unfolding(crate::specs::Memory::part_of))]
+fn part<'a>(ram: &'a [u32], rom: &'a [u32], address: u32) -> &'a [u32]
+    ensures part { result.now ≡ part_of ram.now rom.now address }
+    ensures whole { take 4 result.now ≡ result.now }
+    ensures none { length result.now < 4 → result.now ≡ [] }
+{
+    let at = ram_line(address);
+    if at + 4 <= ram.len() {
+        return &ram[at..at + 4];
+    }
+    if ROM <= at && at - ROM + 4 <= rom.len() {
+        return &rom[at - ROM..at - ROM + 4];
+    }
+    &[]
 }
 
 // The line that holds an address: its four words where they stand.
-#[tactic(auto, unfolding(crate::specs::Memory::part_of, crate::specs::Memory::shown_of))]
 pub fn line<'a>(
     ram: &'a [u32],
     rom: &'a [u32],
@@ -88,20 +108,7 @@ pub fn line<'a>(
     ensures part { part_in result ≡ part_of ram.now rom.now address }
     ensures moved { moved_in result ≡ shown_of (part_of ram.now rom.now address) address }
 {
-    let at = ram_line(address);
-    if at + 4 <= ram.len() {
-        return Ok(Done {
-            words: 4,
-            moved: four(ram, at),
-        });
-    }
-    if ROM <= at && at - ROM + 4 <= rom.len() {
-        return Ok(Done {
-            words: 4,
-            moved: four(rom, at - ROM),
-        });
-    }
-    Err(line_error(address))
+    shown(part(ram, rom, address), address)
 }
 
 // One word read.
