@@ -47,7 +47,8 @@ pub fn restore(
 {
     saved::verdict::verdict(src)?;
     *u = saved::read::registers_at(src);
-    *pair = saved::read::pair_at(src);
+    let held = saved::read::pair_at(src);
+    lent::store(pair, held.status, held.address);
     fields::get_words(src, 81, patc);
     fields::get_words(src, 532, lines);
     fields::get_words(src, 5655, cells);

@@ -22,7 +22,7 @@ pub fn reset(
 {
     refusals::reset(cells.len())?;
     *u = state::reset(number);
-    *pair = FaultPair::default();
+    lent::store(pair, 0, 0);
     fresh::clear(patc);
     fresh::empty(lines);
     fresh::clear(cells);

@@ -16,8 +16,8 @@ returns-in_err-verdict c = rw (handed_on _ _ c.from_residual.ensures) (restore_r
 pub registers_at-requires : goal.registers_at-requires
 registers_at-requires c = let h = long c.args.src.now c.in_ok-verdict.ensures in omega arith
 
-pub pair_at-requires : goal.pair_at-requires
-pair_at-requires c = let h = long c.args.src.now c.in_ok-verdict.ensures in omega arith
+pub pair_at-held-requires : goal.pair_at-held-requires
+pair_at-held-requires c = let h = long c.args.src.now c.in_ok-verdict.ensures in omega arith
 
 pub get_words-requires : goal.get_words-requires
 get_words-requires c =
@@ -43,7 +43,8 @@ returns c =
     let sets : length c.args.lines.now ≡ 1280 = search rules in
     let words : length c.args.cells.now ≡ 4096 = search rules in
     rw (
-      c.pair_at.ensures,
+      c.store.ensures,
+      c.pair_at-held.ensures,
       c.registers_at.ensures,
       c.get_words.ensures,
       entries,
