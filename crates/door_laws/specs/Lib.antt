@@ -1,3 +1,4 @@
 pub mod OneAnswer
+pub mod Outcomes
 pub mod Refused
 pub mod Reached
