@@ -43,7 +43,7 @@ fn flush_line(
 {
     let word = lines::tag_word(lines, p);
     let address = lines::line_address(p, word);
-    if !lines::is_valid(word) | !sweep::covers(range, sar, address) {
+    if !lines::is_valid(word) || !sweep::covers(range, sar, address) {
         return Ok(0);
     }
     if sweep::copies(kind) & lines::is_modified(word) {
